@@ -1,0 +1,90 @@
+-- The first free place of a part: each step of a scan from the part's end, and that all are held exactly where none is free.
+use mathlib.Core.Path.{_≡_, refl, subst}
+use mathlib.Core.Bool.{Bool, true, false, not, cond}
+use mathlib.Core.List.{List, [], _∷_}
+use Prim.Native.Nat.{ℕ, zero, suc, _+_, _-_, _≤_, _<_}
+use native.Mathlib.Nat.{not-suc-le-zero}
+use native.Mathlib.Numerals.{add-one}
+use native.Mathlib.Omega.{arith}
+use borrow.Author.Tests.{not-true, not-false}
+use lib.ListN.{length, getD, take, drop, length-take, length-drop, drop-of-length-le}
+use lib.Seq.{drop-cons, getD-take, getD-drop}
+use Rattle.places.specs.Places.{bit, count, firstFree}
+use Rattle.places.proofs.Count.{count-le-length}
+
+module _ {A : Type 0} (held : A → Bool) where
+  pub first-le : (xs : List A) → firstFree held xs ≤ length xs
+  unfolding firstFree
+  first-le [] = omega arith
+  first-le (x ∷ xs) = go (first-le xs) (held x)
+    where
+      go : firstFree held xs ≤ length xs → (t : Bool) → cond t (suc (firstFree held xs)) 0 ≤ suc (length xs)
+      go r true = omega arith
+      go r false = omega arith
+
+  -- where some place is free, not all are held
+  pub free-left : (xs : List A) → firstFree held xs < length xs → count held xs < length xs
+  unfolding firstFree count
+  free-left [] h = absurd (not-suc-le-zero h)
+  free-left (x ∷ xs) h = go (free-left xs) (held x) h
+    where
+      go : (firstFree held xs < length xs → count held xs < length xs) → (t : Bool) → cond t (suc (firstFree held xs)) 0 < suc (length xs)
+          → bit t + count held xs < suc (length xs)
+      go r true p = omega (arith, r (omega arith))
+      go r false p = omega (arith, count-le-length held xs)
+
+  -- where no place is free, all are held
+  pub none-left : (xs : List A) → length xs ≤ firstFree held xs → length xs ≤ count held xs
+  unfolding firstFree count
+  none-left [] h = omega arith
+  none-left (x ∷ xs) h = go (none-left xs) (held x) h
+    where
+      go : (length xs ≤ firstFree held xs → length xs ≤ count held xs) → (t : Bool) → suc (length xs) ≤ cond t (suc (firstFree held xs)) 0
+          → suc (length xs) ≤ bit t + count held xs
+      go r true p = omega (arith, r (omega arith))
+      go r false p = absurd (omega arith)
+
+  pub first-is-free : (xs : List A) (d : A) → firstFree held xs < length xs → held (getD xs (firstFree held xs) d) ≡ false
+  unfolding firstFree
+  first-is-free [] d h = absurd (not-suc-le-zero h)
+  first-is-free (x ∷ xs) d h = go (first-is-free xs d) (held x) refl h
+    where
+      go : (firstFree held xs < length xs → held (getD xs (firstFree held xs) d) ≡ false) → (t : Bool) → held x ≡ t
+          → cond t (suc (firstFree held xs)) 0 < suc (length xs) → held (getD (x ∷ xs) (cond t (suc (firstFree held xs)) 0) d) ≡ false
+      go r true p q = r (omega arith)
+      go r false p q = p
+
+-- a part of n places from b on, scanned from its end: k is the first free place from i on
+module _ {A : Type 0} (held : A → Bool) (d : A) (all : List A) (b n : ℕ) (fits : b + n ≤ length all) where
+  abbrev pub part : List A
+  part = take n (drop b all)
+
+  pub part-length : length part ≡ n
+  part-length = simp (length-take, length-drop) (omega arith)
+
+  step : (i : ℕ) → i < n → firstFree held (drop i part) ≡ cond (held (getD all (b + i) d)) (suc (firstFree held (drop (suc i) part))) 0
+  unfolding firstFree
+  step i h = rw (drop-cons part i d (omega (arith, part-length)), getD-take n (drop b all) i d h, getD-drop b all i d)
+
+  back : (i : ℕ) → 0 < i → i ≤ n → firstFree held (drop (i - 1) part) ≡ cond (held (getD all (b + (i - 1)) d)) (suc (firstFree held (drop i part))) 0
+  back i l h =
+      let e : suc (i - 1) ≡ i = omega arith in
+      subst (λ (m : ℕ). firstFree held (drop (i - 1) part) ≡ cond (held (getD all (b + (i - 1)) d)) (suc (firstFree held (drop m part))) 0) e
+      (step (i - 1) (omega arith))
+
+  pub scan-starts : n ≡ n + firstFree held (drop n part)
+  unfolding firstFree
+  scan-starts = rw (drop-of-length-le part {i = n} (omega (arith, part-length))) (omega arith)
+
+  pub scan-free : (i : ℕ) → 0 < i → i ≤ n → not (held (getD all (b + (i - 1)) d)) ≡ true → i - 1 ≡ i - 1 + firstFree held (drop (i - 1) part)
+  scan-free i l h t =
+      let f : held (getD all (b + (i - 1)) d) ≡ false = not-true _ t in
+      let s : firstFree held (drop (i - 1) part) ≡ 0 = rw (back i l h, f) in
+      omega arith
+
+  pub scan-held : (i k : ℕ) → 0 < i → i ≤ n → k ≡ i + firstFree held (drop i part) → not (held (getD all (b + (i - 1)) d)) ≡ false
+      → k ≡ i - 1 + firstFree held (drop (i - 1) part)
+  scan-held i k l h e t =
+      let f : held (getD all (b + (i - 1)) d) ≡ true = not-false _ t in
+      let s : firstFree held (drop (i - 1) part) ≡ suc (firstFree held (drop i part)) = rw (back i l h, f) in
+      omega arith

@@ -1,0 +1,142 @@
+-- The least held place: each step of a scan for it, and that what is found is held and nothing held comes before it.
+use mathlib.Core.Path.{_≡_, refl, sym, ap, _∙_, subst}
+use mathlib.Core.Logic.{_⊎_, inl, inr}
+use mathlib.Core.Bool.{Bool, true, false, cond, _&&_, false≢true}
+use mathlib.Core.List.{List, [], _∷_}
+use Prim.Native.Nat.{ℕ, zero, suc, _+_, _≤_, _<_}
+use native.Mathlib.Numerals.{add-one}
+use native.Mathlib.Omega.{arith}
+use lib.ListN.{length, getD, drop, drop-of-length-le}
+use lib.Seq.{drop-cons}
+use Rattle.places.specs.Choice.{Key, comesBefore, Choice, nothing, at, better, least, leastHeld, placeOr, Leads}
+use Rattle.places.proofs.Order.{not-self, not-earlier}
+
+-- a scan has come to place i of n with the place `best`, n while none is held
+module _ {A : Type 0} (held : A → Bool) (key : ℕ → A → Key) (d : A) (n : ℕ) where
+  step : (best : Choice A) (xs : List A) (i : ℕ) → i < length xs
+      → least held key best i (drop i xs) ≡ least held key (better held key best i (getD xs i d)) (i + 1) (drop (i + 1) xs)
+  unfolding least
+  step best xs i h = rw (add-one, drop-cons xs i d)
+
+  abbrev pub Best : List A → ℕ → ℕ → Type 0
+  Best xs best i =
+      ((best ≡ n) × (leastHeld held key xs ≡ least held key nothing i (drop i xs)))
+      ⊎ ((best < i) × (leastHeld held key xs ≡ least held key (at best (getD xs best d)) i (drop i xs)))
+
+  pub best-starts : (xs : List A) → Best xs n 0
+  best-starts xs = inl (refl, refl)
+
+  module _ (xs : List A) (best i : ℕ) (l : length xs ≡ n) (p : i < n) where
+    pub best-free : Best xs best i → held (getD xs i d) ≡ false → Best xs best (i + 1)
+    unfolding better
+    best-free (inl q) f = inl (q .0, q .1 ∙ step nothing xs i (omega arith) ∙ rw f)
+    best-free (inr q) f = inr (omega arith, q .1 ∙ step (at best (getD xs best d)) xs i (omega arith) ∙ rw f)
+
+    pub best-first : Best xs best i → held (getD xs i d) ≡ true → n ≤ best → Best xs i (i + 1)
+    unfolding better
+    best-first (inl q) f h = inr (omega arith, q .1 ∙ step nothing xs i (omega arith) ∙ rw f)
+    best-first (inr q) f h = absurd (omega arith)
+
+    module _ (q : Best xs best i) (f : held (getD xs i d) ≡ true) (h : best < n) where
+      pub best-new : comesBefore (key i (getD xs i d)) (key best (getD xs best d)) ≡ true → Best xs i (i + 1)
+      unfolding better
+      best-new s = go q
+        where
+          go : Best xs best i → Best xs i (i + 1)
+          go (inl r) = absurd (omega arith)
+          go (inr r) = inr (omega arith, r .1 ∙ step (at best (getD xs best d)) xs i (omega arith) ∙ rw (f, s))
+
+      pub best-kept : comesBefore (key i (getD xs i d)) (key best (getD xs best d)) ≡ false → Best xs best (i + 1)
+      unfolding better
+      best-kept s = go q
+        where
+          go : Best xs best i → Best xs best (i + 1)
+          go (inl r) = absurd (omega arith)
+          go (inr r) = inr (omega arith, r .1 ∙ step (at best (getD xs best d)) xs i (omega arith) ∙ rw (f, s))
+
+  ends : (best : Choice A) (xs : List A) (i : ℕ) → length xs ≤ i → least held key best i (drop i xs) ≡ best
+  unfolding least
+  ends best xs i h = rw (drop-of-length-le xs h)
+
+  -- what the scan has found in the end
+  pub best-none : (xs : List A) (best i : ℕ) → Best xs best i → length xs ≡ n → n ≤ i → i ≤ n → n ≤ best → leastHeld held key xs ≡ nothing
+  best-none xs best i (inl q) l h h′ b = q .1 ∙ ends nothing xs i (omega arith)
+  best-none xs best i (inr q) l h h′ b = absurd (omega arith)
+
+  pub best-found : (xs : List A) (best i : ℕ) → Best xs best i → length xs ≡ n → n ≤ i → best < n → leastHeld held key xs ≡ at best (getD xs best d)
+  best-found xs best i (inl q) l h b = absurd (omega arith)
+  best-found xs best i (inr q) l h b = q .1 ∙ ends (at best (getD xs best d)) xs i (omega arith)
+
+-- that the choice leads
+module _ {A : Type 0} (held : A → Bool) (key : ℕ → A → Key) (free : A) (unheld : held free ≡ false) where
+  -- the choice is a held place of the list
+  Held : List A → Choice A → Type 0
+  Held xs nothing = Unit {0}
+  Held xs (at k x) = (k < length xs) × (getD xs k free ≡ x) × (held x ≡ true)
+
+  better-held : (xs : List A) (best : Choice A) (k : ℕ) → k < length xs → Held xs best → Held xs (better held key best k (getD xs k free))
+  unfolding better Held
+  better-held xs nothing k h g = go (held (getD xs k free)) refl
+    where
+      go : (t : Bool) → held (getD xs k free) ≡ t → Held xs (cond t (at k (getD xs k free)) nothing)
+      go true p = (h, refl, p)
+      go false p = tt
+  better-held xs (at j y) k h g = go (held (getD xs k free)) refl (comesBefore (key k (getD xs k free)) (key j y))
+    where
+      go : (t : Bool) → held (getD xs k free) ≡ t → (s : Bool) → Held xs (cond (t && s) (at k (getD xs k free)) (at j y))
+      go true p true = (h, refl, p)
+      go true p false = g
+      go false p s = g
+
+  least-held : (xs : List A) (m : ℕ) (best : Choice A) (k : ℕ) → k + m ≡ length xs → Held xs best → Held xs (least held key best k (drop k xs))
+  unfolding least
+  least-held xs zero best k e g = rw (drop-of-length-le xs {i = k} (omega arith)) g
+  least-held xs (suc m) best k e g =
+      rw (drop-cons xs k free (omega arith)) (least-held xs m (better held key best k (getD xs k free)) (suc k) (omega arith) (better-held xs best k (omega arith) g))
+
+  -- x at place i does not come before the choice, which there is
+  Ahead : ℕ → A → Choice A → Type 0
+  Ahead i x nothing = ⊥
+  Ahead i x (at j y) = comesBefore (key i x) (key j y) ≡ false
+
+  better-ahead : (best : Choice A) (k : ℕ) (y : A) (i : ℕ) (x : A) → Ahead i x best → Ahead i x (better held key best k y)
+  unfolding better Ahead
+  better-ahead nothing k y i x g = absurd g
+  better-ahead (at j b) k y i x g = go (held y) (comesBefore (key k y) (key j b)) refl
+    where
+      go : (t s : Bool) → comesBefore (key k y) (key j b) ≡ s → Ahead i x (cond (t && s) (at k y) (at j b))
+      go true true p = not-earlier (key i x) (key j b) (key k y) p g
+      go true false p = g
+      go false s p = g
+
+  better-self : (best : Choice A) (k : ℕ) (y : A) → held y ≡ true → Ahead k y (better held key best k y)
+  unfolding better Ahead
+  better-self nothing k y h = rw h (not-self (key k y))
+  better-self (at j b) k y h = rw h (go (comesBefore (key k y) (key j b)) refl)
+    where
+      go : (s : Bool) → comesBefore (key k y) (key j b) ≡ s → Ahead k y (cond s (at k y) (at j b))
+      go true q = not-self (key k y)
+      go false q = q
+
+  least-ahead : (best : Choice A) (k : ℕ) (xs : List A) (i : ℕ) (x : A) → Ahead i x best → Ahead i x (least held key best k xs)
+  unfolding least
+  least-ahead best k [] i x g = g
+  least-ahead best k (y ∷ ys) i x g = least-ahead (better held key best k y) (suc k) ys i x (better-ahead best k y i x g)
+
+  least-all : (best : Choice A) (k : ℕ) (xs : List A) (i : ℕ) → held (getD xs i free) ≡ true → Ahead (k + i) (getD xs i free) (least held key best k xs)
+  unfolding least
+  least-all best k [] i h = absurd (false≢true (sym unheld ∙ h))
+  least-all best k (y ∷ ys) zero h =
+      least-ahead (better held key best k y) (suc k) ys (k + 0) y (subst (λ (m : ℕ). Ahead m y (better held key best k y)) (omega arith) (better-self best k y h))
+  least-all best k (y ∷ ys) (suc i) h =
+      subst (λ (m : ℕ). Ahead m (getD ys i free) (least held key (better held key best k y) (suc k) ys)) (omega arith) (least-all (better held key best k y) (suc k) ys i h)
+
+  pub leads : (xs : List A) → Leads held key free xs (leastHeld held key xs)
+  unfolding Ahead Held
+  leads xs =
+      go (leastHeld held key xs) (least-held xs (length xs) nothing 0 (omega arith) tt)
+      (λ i h. subst (λ (m : ℕ). Ahead m (getD xs i free) (leastHeld held key xs)) (omega arith) (least-all nothing 0 xs i h))
+    where
+      go : (x : Choice A) → Held xs x → ((i : ℕ) → held (getD xs i free) ≡ true → Ahead i (getD xs i free) x) → Leads held key free xs x
+      go nothing g f = f
+      go (at k x) g f = (g .0, g .1, g .2, f)

@@ -1,0 +1,6 @@
+pub mod Count
+pub mod Free
+pub mod Order
+pub mod Least
+pub mod Clear
+pub mod Apart

@@ -1,0 +1,1 @@
+// What is true of every lane's places: definitions and laws only, no code.
