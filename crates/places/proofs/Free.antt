@@ -88,3 +88,9 @@ module _ {A : Type 0} (held : A → Bool) (d : A) (all : List A) (b n : ℕ) (fi
       let f : held (getD all (b + (i - 1)) d) ≡ true = not-false _ t in
       let s : firstFree held (drop (i - 1) part) ≡ suc (firstFree held (drop i part)) = rw (back i l h, f) in
       omega arith
+
+  pub scan-ends : (i k : ℕ) → i ≤ 0 → k ≡ i + firstFree held (drop i part) → k ≡ firstFree held part
+  scan-ends i k h e =
+      let z : i ≡ 0 = omega arith in
+      let f : k ≡ 0 + firstFree held part = rw z at e in
+      omega arith

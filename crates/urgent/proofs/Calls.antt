@@ -1,0 +1,102 @@
+-- Each case of what a call gives, from the tests that lead to it.
+use mathlib.Core.Path.{_≡_, refl, sym, ap, _∙_}
+use mathlib.Core.Bool.{Bool, true, false, not, cond}
+use mathlib.Core.List.{List}
+use Prim.Native.Nat.{ℕ, _+_, _-_, _*_, _%_, _/_, _^_, _≤_, _<_}
+use native.Mathlib.Omega.{arith}
+use borrow.Author.Tests.{lt-ltb, le-ltb, le-leb, lt-leb, not-true, not-false}
+use lib.ListN.{length, getD, set, take, drop}
+use lib.Seq.{set-out}
+use Rattle.units.specs.Limits.{placeCount, slotLimit, badDeadline}
+use Rattle.units.specs.Refusals.{firstOf}
+use Rattle.units.specs.declared.Refusal.the-variants.{NoSuchFlow, NotOpen, AlreadyOpen, BeyondLimit, PlacesFull, SlotsUsedUp}
+use Rattle.places.specs.Places.{count, placesOf, firstFree, clearedAll}
+use Rattle.places.specs.Choice.{Choice, nothing, at, leastHeld}
+use Rattle.places.proofs.Free.{free-left, none-left, part-length}
+use Rattle.urgent.specs.declared.Cell.{Cell}
+use Rattle.urgent.specs.declared.Urgent.{Urgent}
+use Rattle.urgent.specs.declared.Answer.the-variants.{Accepted, Sent, Idle}
+use Rattle.urgent.specs.Lane.{freeCell, isHeld, flowAt, keyOf, lastIs}
+use Rattle.urgent.specs.Calls.{refused, opened, openOf, lastSlot, offerOf, chosen, turnOf}
+
+module _ (u : Urgent) (flow deadline : ℕ) where
+  pub open-1 : 15 < flow → refused u NoSuchFlow ≡ openOf u flow deadline
+  unfolding openOf firstOf
+  open-1 h = rw (lt-ltb 15 flow h)
+
+  module _ (h : flow ≤ 15) where
+    pub open-3 : flowAt u flow .opened ≡ true → refused u AlreadyOpen ≡ openOf u flow deadline
+    unfolding openOf firstOf
+    open-3 o = rw (le-ltb 15 flow h, o)
+
+    pub open-4 : flowAt u flow .opened ≡ false → badDeadline deadline ≡ true → refused u BeyondLimit ≡ openOf u flow deadline
+    unfolding openOf firstOf
+    open-4 o d = rw (le-ltb 15 flow h, o, d)
+
+    pub open-ok : flowAt u flow .opened ≡ false → badDeadline deadline ≡ false → opened u flow deadline ≡ openOf u flow deadline
+    unfolding openOf firstOf
+    open-ok o d = rw (le-ltb 15 flow h, o, d)
+
+module _ (u : Urgent) (flow : ℕ) where
+  pub offer-1 : 15 < flow → refused u NoSuchFlow ≡ offerOf u flow
+  unfolding offerOf firstOf
+  offer-1 h = rw (lt-ltb 15 flow h)
+
+  module _ (h : flow ≤ 15) where
+    pub offer-2 : not (flowAt u flow .opened) ≡ true → refused u NotOpen ≡ offerOf u flow
+    unfolding offerOf firstOf
+    offer-2 o = rw (le-ltb 15 flow h, o)
+
+    -- k is the flow's first free place
+    module _ (o : not (flowAt u flow .opened) ≡ false) (l : length (u .cells) ≡ 256) (k : ℕ) (e : k ≡ firstFree isHeld (placesOf placeCount flow (u .cells))) where
+      sixteen : length (placesOf placeCount flow (u .cells)) ≡ 16
+      sixteen = part-length isHeld freeCell (u .cells) (flow * 16) 16 (omega arith)
+
+      full : 16 ≤ k → 16 ≤ count isHeld (placesOf placeCount flow (u .cells))
+      full f = omega (arith, sixteen, none-left isHeld (placesOf placeCount flow (u .cells)) (omega (arith, sixteen)))
+
+      room : k < 16 → count isHeld (placesOf placeCount flow (u .cells)) < 16
+      room f = omega (arith, sixteen, free-left isHeld (placesOf placeCount flow (u .cells)) (omega (arith, sixteen)))
+
+      pub offer-5 : 16 ≤ k → refused u PlacesFull ≡ offerOf u flow
+      unfolding offerOf firstOf
+      offer-5 f = rw (le-ltb 15 flow h, o, le-leb 16 (count isHeld (placesOf placeCount flow (u .cells))) (full f))
+
+      module _ (f : k < 16) (late : Bool) (t : late ≡ lib.Dec.ltb slotLimit (u .now .0 + flowAt u flow .deadline)) where
+        pub offer-7 : late ≡ true → refused u SlotsUsedUp ≡ offerOf u flow
+        unfolding offerOf firstOf
+        offer-7 p = rw (le-ltb 15 flow h, o, lt-leb 16 (count isHeld (placesOf placeCount flow (u .cells))) (room f), ← t, p)
+
+        pub offer-ok : late ≡ false → (last next : ℕ) → last ≡ u .now .0 + flowAt u flow .deadline - 1 → next ≡ (flowAt u flow .next + 1) % 2 ^ 64
+            → record {
+              lane = record {
+                now = u .now;
+                flows = set (u .flows) flow (record { opened = true; deadline = flowAt u flow .deadline; next = next });
+                cells = set (u .cells) (flow * 16 + k) (record { held = true; number = flowAt u flow .next; last = record { 0 = last } });
+              };
+              answer = Accepted (flowAt u flow .next) (record { 0 = last });
+            } ≡ offerOf u flow
+        unfolding offerOf firstOf
+        offer-ok p last next a b =
+            rw (le-ltb 15 flow h, o, lt-leb 16 (count isHeld (placesOf placeCount flow (u .cells))) (room f), ← t, p, ← e, a, b)
+
+module _ (u : Urgent) (usable : Bool) where
+  pub turn-7 : slotLimit ≤ u .now .0 → refused u SlotsUsedUp ≡ turnOf u usable
+  unfolding turnOf firstOf
+  turn-7 h = rw (le-leb slotLimit (u .now .0) h)
+
+  module _ (h : u .now .0 < slotLimit) (cells : List Cell) (missed : ℕ) where
+    pub turn-sent : (place : ℕ) → chosen u usable ≡ at place (getD (u .cells) place freeCell)
+        → (cells ≡ clearedAll (lastIs (u .now .0)) freeCell (set (u .cells) place freeCell)) × (missed ≡ count (lastIs (u .now .0)) (set (u .cells) place freeCell))
+        → record {
+          lane = record { now = record { 0 = u .now .0 + 1 }; flows = u .flows; cells = cells };
+          answer = Sent (place / 16) (getD (u .cells) place freeCell .number) missed;
+        } ≡ turnOf u usable
+    unfolding turnOf firstOf
+    turn-sent place e q = rw (lt-leb slotLimit (u .now .0) h, e, q .0, q .1)
+
+    pub turn-idle : chosen u usable ≡ nothing
+        → (cells ≡ clearedAll (lastIs (u .now .0)) freeCell (u .cells)) × (missed ≡ count (lastIs (u .now .0)) (u .cells))
+        → record { lane = record { now = record { 0 = u .now .0 + 1 }; flows = u .flows; cells = cells }; answer = Idle missed } ≡ turnOf u usable
+    unfolding turnOf firstOf
+    turn-idle e q = rw (lt-leb slotLimit (u .now .0) h, e, q .0, q .1)

@@ -1,0 +1,174 @@
+-- `Urgent::offer` meets its contract. The loop goes from the flow's last place to its first. Its invariant: k is the first
+-- free place from i on, or 16. The measure is i.
+use mathlib.Core.Path.{_≡_, refl, sym, _∙_}
+use Prim.Native.Nat.{_+_, _*_, _≤_}
+use native.Mathlib.Omega.{arith}
+use borrow.Author.Tests.{ltb-false}
+use borrow.Author.Needs.{needs}
+use lib.ListN.{length, drop, length-map}
+use Rattle.units.specs.Limits.{slotLimit}
+use Rattle.places.specs.Places.{firstFree, placesOf}
+use Rattle.places.proofs.Free.{scan-starts, scan-free, scan-held, scan-ends}
+use Rattle.urgent.specs.Lane.{isHeld, freeCell, flowAt}
+use Rattle.urgent.proofs.Calls.{offer-1, offer-2, offer-5, offer-7, offer-ok}
+use Rattle.urgent.proofs.Urgent.offer.Statement.{statement}
+use Rattle.urgent.proofs.Urgent.offer.Tie as tie
+
+abbrev Inv-loop : tie.InvT-loop
+Inv-loop flow self f was k₀ i₀ k i = (i ≤ 16) × (k ≡ i + firstFree isHeld (drop i (placesOf 16 f (self .cells))))
+
+abbrev μ-loop : tie.MeasureT-loop
+μ-loop flow self f was k₀ i₀ k i = i
+
+cells-known : (s : tie.Start Inv-loop μ-loop) → length (s .args .t1 .cells) ≡ 256
+cells-known s = sym (length-map (s .args .t1 .cells) _) ∙ s .good .0 .1 .1 .1 .1 .0 .1 .0 .1
+
+-- after the scan k is the flow's first free place
+scanned : (a : tie.After-loop Inv-loop μ-loop) → a .before .loop .k ≡ firstFree isHeld (placesOf 16 (a .before .before .before .before .before .before .args .flow) (a .before .before .before .before .before .before .args .t1 .cells))
+scanned a =
+    let start = a .before .before .before .before .before .before in
+    scan-ends isHeld freeCell (start .args .t1 .cells) (start .args .flow * 16) 16 (omega (arith, cells-known start)) (a .before .loop .i) (a .before .loop .k) (a .loop-test .left) (a .before .loop .inv .1)
+
+returns : tie.Need-returns Inv-loop μ-loop
+returns c = offer-1 (c .before .args .t1) (c .before .args .flow) (search needs)
+
+mul-was : tie.Need-mul-was Inv-loop μ-loop
+mul-was c = search needs
+
+element-copy-out-was : tie.Need-element-copy-out-was Inv-loop μ-loop
+element-copy-out-was c = search needs
+
+returns-2 : tie.Need-returns-2 Inv-loop μ-loop
+returns-2 c = offer-2 (c .before .before .before .before .args .t1) (c .before .before .before .before .args .flow) (search needs) (c .if2 .taken)
+
+loop-holds : tie.Need-loop-holds Inv-loop μ-loop
+loop-holds c =
+    let start = c .before .before .before .before in
+    let f = start .args .flow in
+    (search needs, scan-starts isHeld freeCell (start .args .t1 .cells) (f * 16) 16 (omega (arith, cells-known start)))
+
+sub-i : tie.Need-sub-i Inv-loop μ-loop
+sub-i c = search needs
+
+mul-c : tie.Need-mul-c Inv-loop μ-loop
+mul-c c = search needs
+
+add-c : tie.Need-add-c Inv-loop μ-loop
+add-c c = search needs
+
+mul-c-2 : tie.Need-mul-c-2 Inv-loop μ-loop
+mul-c-2 c = search needs
+
+element-copy-out-c : tie.Need-element-copy-out-c Inv-loop μ-loop
+element-copy-out-c c = search needs
+
+loop-less : tie.Need-loop-less Inv-loop μ-loop
+loop-less c = search needs
+
+loop-again : tie.Need-loop-again Inv-loop μ-loop
+loop-again c =
+    let at = c .before .before .before .before in
+    let start = at .before .before .before .before .before in
+    let u = start .args .t1 in
+    let f = start .args .flow in
+    let fits : f * 16 + 16 ≤ length (u .cells) = omega (arith, cells-known start) in
+    (search needs, scan-free isHeld freeCell (u .cells) (f * 16) 16 fits (at .loop .i) (search needs) (search needs) (c .if3 .taken))
+
+loop-less-2 : tie.Need-loop-less-2 Inv-loop μ-loop
+loop-less-2 c = search needs
+
+loop-again-2 : tie.Need-loop-again-2 Inv-loop μ-loop
+loop-again-2 c =
+    let at = c .before .before .before .before in
+    let start = at .before .before .before .before .before in
+    let u = start .args .t1 in
+    let f = start .args .flow in
+    let fits : f * 16 + 16 ≤ length (u .cells) = omega (arith, cells-known start) in
+    (search needs, scan-held isHeld freeCell (u .cells) (f * 16) 16 fits (at .loop .i) (at .loop .k) (search needs) (search needs) (at .loop .inv .1) (c .if3 .left))
+
+returns-3 : tie.Need-returns-3 Inv-loop μ-loop
+returns-3 c =
+    let after = c .before in
+    let start = after .before .before .before .before .before .before in
+    offer-5 (start .args .t1) (start .args .flow) (search needs) (after .before .before .if2 .left) (cells-known start) (after .before .loop .k) (scanned after) (c .if4 .taken)
+
+passes-requires : tie.Need-passes-requires Inv-loop μ-loop
+passes-requires c κs = search needs
+
+returns-4 : tie.Need-returns-4 Inv-loop μ-loop
+returns-4 c =
+    let after = c .before .before .before in
+    let start = after .before .before .before .before .before .before in
+    offer-7 (start .args .t1) (start .args .flow) (search needs) (after .before .before .if2 .left) (cells-known start) (after .before .loop .k) (scanned after) (search needs) (c .before .passes .result) (c .before .passes .ensures) (c .if5 .taken)
+
+add-before : tie.Need-add-before Inv-loop μ-loop
+add-before c =
+    let u = c .before .before .before .before .before .before .before .before .before .before .args .t1 in
+    let f = c .before .before .before .before .before .before .before .before .before .before .args .flow in
+    omega (arith, ltb-false slotLimit (u .now .0 + flowAt u f .deadline) (sym (c .before .before .passes .ensures) ∙ c .before .if5 .left))
+
+before-requires : tie.Need-before-requires Inv-loop μ-loop
+before-requires c κs = search needs
+
+mul-t16 : tie.Need-mul-t16 Inv-loop μ-loop
+mul-t16 c = search needs
+
+add-t40 : tie.Need-add-t40 Inv-loop μ-loop
+add-t40 c = search needs
+
+mul-t41 : tie.Need-mul-t41 Inv-loop μ-loop
+mul-t41 c = search needs
+
+element-set-from-self : tie.Need-element-set-from-self Inv-loop μ-loop
+element-set-from-self c = search needs
+
+wrapping-add-u64-requires : tie.Need-wrapping-add-u64-requires Inv-loop μ-loop
+wrapping-add-u64-requires c κs = search needs
+
+mul-t41-2 : tie.Need-mul-t41-2 Inv-loop μ-loop
+mul-t41-2 c = search needs
+
+element-set-from-self-2 : tie.Need-element-set-from-self-2 Inv-loop μ-loop
+element-set-from-self-2 c = search needs
+
+returns-5 : tie.Need-returns-5 Inv-loop μ-loop
+returns-5 c =
+    let passed = c .before .before .before .before in
+    let after = passed .before .before in
+    let start = after .before .before .before .before .before .before in
+    offer-ok (start .args .t1) (start .args .flow) (search needs) (after .before .before .if2 .left) (cells-known start) (after .before .loop .k) (scanned after) (search needs)
+    (passed .passes .result) (passed .passes .ensures) (c .before .before .before .if5 .left) (c .before .before2 .result) (c .wrapping-add-u64 .result) (c .before .before2 .ensures) (c .wrapping-add-u64 .ensures)
+
+pub offer-spec : {M : Type 1} → statement M
+offer-spec =
+    tie.close
+    (tie.spec
+    Inv-loop
+    μ-loop
+    returns
+    mul-was
+    element-copy-out-was
+    returns-2
+    loop-holds
+    sub-i
+    mul-c
+    add-c
+    mul-c-2
+    element-copy-out-c
+    loop-less
+    loop-again
+    loop-less-2
+    loop-again-2
+    returns-3
+    passes-requires
+    returns-4
+    add-before
+    before-requires
+    mul-t16
+    add-t40
+    mul-t41
+    element-set-from-self
+    wrapping-add-u64-requires
+    mul-t41-2
+    element-set-from-self-2
+    returns-5)

@@ -1,0 +1,88 @@
+-- What each call of the urgent lane gives, over every state.
+use mathlib.Core.Bool.{Bool, true, false, cond}
+use mathlib.Core.List.{List}
+use mathlib.Core.Option.{Option, none, some}
+use Prim.Native.Nat.{ℕ, _+_, _-_, _*_, _%_, _^_}
+use lib.ListN.{set}
+use Rattle.units.specs.Limits.{placeCount}
+use Rattle.units.specs.Refusals.{Ground, firstOf}
+use Rattle.units.specs.declared.Refusal.{Refusal}
+use Rattle.places.specs.Places.{count, placesOf, flowOf, firstFree, clearedAll}
+use Rattle.places.specs.Choice.{Choice, nothing, at, leastHeld}
+use Rattle.urgent.specs.declared.Cell.{Cell}
+use Rattle.urgent.specs.declared.Urgent.{Urgent}
+use Rattle.urgent.specs.declared.Done.{Done}
+use Rattle.urgent.specs.declared.Answer.{Answer}
+use Rattle.urgent.specs.declared.Answer.the-variants.{Refused, Opened, Accepted, Sent, Idle}
+use Rattle.urgent.specs.Lane.{freeCell, isHeld, flowAt, keyOf, lastIs, openingGrounds, offeringGrounds, turnGrounds}
+
+-- a refused call hands the lane back as it was
+abbrev pub refused : Urgent → Refusal → Done
+refused u r = record { lane = u; answer = Refused r }
+
+abbrev pub unless : Urgent → Option Refusal → Done → Done
+unless u none done = done
+unless u (some r) done = refused u r
+
+-- opening: the flow's numbers go on where they stood
+abbrev pub opened : Urgent → ℕ → ℕ → Done
+opened u flow deadline =
+    record {
+      lane =
+          record {
+            now = u .now;
+            flows = set (u .flows) flow (record { opened = true; deadline = deadline; next = flowAt u flow .next });
+            cells = u .cells;
+          };
+      answer = Opened;
+    }
+
+unfoldable pub openOf : Urgent → ℕ → ℕ → Done
+openOf u flow deadline = unless u (firstOf (openingGrounds u flow deadline)) (opened u flow deadline)
+
+-- offering: the cell's window is now to now + deadline - 1, and it takes the flow's first free place
+abbrev pub lastSlot : Urgent → ℕ → ℕ
+lastSlot u flow = u .now .0 + flowAt u flow .deadline - 1
+
+abbrev pub accepted : Urgent → ℕ → Done
+accepted u flow =
+    record {
+      lane =
+          record {
+            now = u .now;
+            flows =
+                set (u .flows) flow
+                (record { opened = true; deadline = flowAt u flow .deadline; next = (flowAt u flow .next + 1) % 2 ^ 64 });
+            cells =
+                set (u .cells) (flow * placeCount + firstFree isHeld (placesOf placeCount flow (u .cells)))
+                (record { held = true; number = flowAt u flow .next; last = record { 0 = lastSlot u flow } });
+          };
+      answer = Accepted (flowAt u flow .next) (record { 0 = lastSlot u flow });
+    }
+
+unfoldable pub offerOf : Urgent → ℕ → Done
+offerOf u flow = unless u (firstOf (offeringGrounds u flow)) (accepted u flow)
+
+-- a turn's end: the waiting cells whose last slot is now are dropped and counted as missed, and now moves by one
+abbrev pub ended : Urgent → List Cell → (ℕ → Answer) → Done
+ended u cells answer =
+    record {
+      lane =
+          record {
+            now = record { 0 = u .now .0 + 1 };
+            flows = u .flows;
+            cells = clearedAll (lastIs (u .now .0)) freeCell cells;
+          };
+      answer = answer (count (lastIs (u .now .0)) cells);
+    }
+
+-- an open turn sends the waiting cell that goes first, if any waits; a lost turn sends nothing
+abbrev pub chosen : Urgent → Bool → Choice Cell
+chosen u usable = cond usable (leastHeld isHeld keyOf (u .cells)) nothing
+
+abbrev pub turned : Urgent → Choice Cell → Done
+turned u nothing = ended u (u .cells) Idle
+turned u (at place c) = ended u (set (u .cells) place freeCell) (Sent (flowOf placeCount place) (c .number))
+
+unfoldable pub turnOf : Urgent → Bool → Done
+turnOf u usable = unless u (firstOf (turnGrounds u)) (turned u (chosen u usable))

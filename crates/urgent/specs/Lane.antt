@@ -1,0 +1,60 @@
+-- The urgent lane's state: what waits where, and the conditions under which a call is refused.
+use mathlib.Core.Bool.{Bool, true, false, not, _&&_}
+use mathlib.Core.List.{List, [], _∷_}
+use Prim.Native.Nat.{ℕ, _+_}
+use lib.Dec.{ltb, leb, eqb}
+use lib.ListN.{getD, replicate}
+use Rattle.units.specs.Limits.{placeCount, slotLimit, noSuchFlow, badDeadline}
+use Rattle.units.specs.Refusals.{Ground}
+use Rattle.units.specs.declared.Refusal.the-variants.{NoSuchFlow, NotOpen, AlreadyOpen, BeyondLimit, PlacesFull, SlotsUsedUp}
+use Rattle.places.specs.Places.{count, placesOf, flowOf}
+use Rattle.places.specs.Choice.{Key}
+use Rattle.urgent.specs.declared.Cell.{Cell}
+use Rattle.urgent.specs.declared.Flow.{Flow}
+use Rattle.urgent.specs.declared.Urgent.{Urgent}
+
+-- a free place
+abbrev pub freeCell : Cell
+freeCell = record { held = false; number = 0; last = record { 0 = 0 } }
+
+abbrev pub isHeld : Cell → Bool
+isHeld c = c .held
+
+-- a flow that was never opened
+abbrev pub shutFlow : Flow
+shutFlow = record { opened = false; deadline = 0; next = 0 }
+
+-- the lane before any call
+abbrev pub freshLane : Urgent
+freshLane = record { now = record { 0 = 0 }; flows = replicate 16 shutFlow; cells = replicate 256 freeCell }
+
+abbrev pub flowAt : Urgent → ℕ → Flow
+flowAt u flow = getD (u .flows) flow shutFlow
+
+-- how many cells of a flow wait
+abbrev pub waitingOf : Urgent → ℕ → ℕ
+waitingOf u flow = count isHeld (placesOf placeCount flow (u .cells))
+
+-- what an open turn's choice goes by: the last slot, then the flow, then the number
+abbrev pub keyOf : ℕ → Cell → Key
+keyOf place c = record { rank = c .last .0; flow = flowOf placeCount place; number = c .number }
+
+-- a waiting cell's last slot is now
+abbrev pub lastIs : ℕ → Cell → Bool
+lastIs now c = c .held && eqb (c .last .0) now
+
+-- the refusals of each call, in the order in which they are given
+abbrev pub openingGrounds : Urgent → ℕ → ℕ → List Ground
+openingGrounds u flow deadline =
+    (NoSuchFlow, noSuchFlow flow) ∷ (AlreadyOpen, flowAt u flow .opened) ∷ (BeyondLimit, badDeadline deadline) ∷ []
+
+abbrev pub offeringGrounds : Urgent → ℕ → List Ground
+offeringGrounds u flow =
+    (NoSuchFlow, noSuchFlow flow)
+    ∷ (NotOpen, not (flowAt u flow .opened))
+    ∷ (PlacesFull, leb placeCount (waitingOf u flow))
+    ∷ (SlotsUsedUp, ltb slotLimit (u .now .0 + flowAt u flow .deadline))
+    ∷ []
+
+abbrev pub turnGrounds : Urgent → List Ground
+turnGrounds u = (SlotsUsedUp, leb slotLimit (u .now .0)) ∷ []

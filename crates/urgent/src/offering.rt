@@ -1,0 +1,80 @@
+// Offering a cell.
+ghost use mathlib.Core.Path.{_≡_};
+ghost use Prim.Native.Nat.{_-_};
+ghost use Rattle.urgent.specs.Calls.{offerOf};
+use crate::Answer;
+use crate::Cell;
+use crate::Done;
+use crate::Flow;
+use crate::Urgent;
+use units::LAST_FLOW;
+use units::Refusal;
+use units::SLOT_LIMIT;
+use units::Slot;
+
+impl Urgent {
+    // Offers a cell of a flow.
+    pub fn offer(mut self, flow: u64) -> Done
+        ensures { λ r. ⌜ r ≡ offerOf self flow ⌝ }
+    {
+        if LAST_FLOW < flow {
+            return Done {
+                lane: self,
+                answer: Answer::Refused(Refusal::NoSuchFlow),
+            };
+        }
+        let f = flow as usize;
+        let was = self.flows[f];
+        if !was.opened {
+            return Done {
+                lane: self,
+                answer: Answer::Refused(Refusal::NotOpen),
+            };
+        }
+        let mut k: usize = 16;
+        let mut i: usize = 16;
+        while 0 < i {
+            i -= 1;
+            let c = self.cells[f * 16 + i];
+            if !c.held {
+                k = i;
+            }
+        }
+        if 16 <= k {
+            return Done {
+                lane: self,
+                answer: Answer::Refused(Refusal::PlacesFull),
+            };
+        }
+        let now = self.now.0;
+        if units::passes(now, was.deadline, SLOT_LIMIT) {
+            return Done {
+                lane: self,
+                answer: Answer::Refused(Refusal::SlotsUsedUp),
+            };
+        }
+        let last = before(now + was.deadline);
+        self.cells[f * 16 + k] = Cell {
+            held: true,
+            number: was.next,
+            last: Slot(last),
+        };
+        let next = std::num::wrapping_add_u64(was.next, 1);
+        self.flows[f] = Flow {
+            opened: true,
+            deadline: was.deadline,
+            next: next,
+        };
+        Done {
+            lane: self,
+            answer: Answer::Accepted(was.next, Slot(last)),
+        }
+    }
+}
+
+// The slot before slot n; slot 0 has none before it.
+fn before(n: u64) -> u64
+    ensures { λ r. ⌜ r ≡ n - 1 ⌝ }
+{
+    if 0 < n { n - 1 } else { 0 }
+}
