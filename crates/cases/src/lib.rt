@@ -1,0 +1,1 @@
+// The worked cases of the tender: one table and its one proof, no code.
