@@ -3,6 +3,7 @@ use mathlib.Core.Path.{_≡_, refl, subst}
 use mathlib.Core.Bool.{Bool, true, false, not, cond}
 use mathlib.Core.List.{List, [], _∷_}
 use Prim.Native.Nat.{ℕ, zero, suc, _+_, _-_, _≤_, _<_}
+use native.Mathlib.Decide.{decLt}
 use native.Mathlib.Nat.{not-suc-le-zero}
 use native.Mathlib.Numerals.{add-one}
 use native.Mathlib.Omega.{arith}
@@ -44,6 +45,14 @@ module _ {A : Type 0} (held : A → Bool) where
       go r true p = omega (arith, r (omega arith))
       go r false p = absurd (omega arith)
 
+  -- where not all are held, the first free place is one of them
+  pub room-left : (xs : List A) → count held xs < length xs → firstFree held xs < length xs
+  room-left xs h = go (decLt (firstFree held xs) (length xs))
+    where
+      go : Dec (firstFree held xs < length xs) → firstFree held xs < length xs
+      go (yes l) = l
+      go (no l) = absurd (omega (arith, none-left xs (omega arith)))
+
   pub first-is-free : (xs : List A) (d : A) → firstFree held xs < length xs → held (getD xs (firstFree held xs) d) ≡ false
   unfolding firstFree
   first-is-free [] d h = absurd (not-suc-le-zero h)
@@ -61,6 +70,14 @@ module _ {A : Type 0} (held : A → Bool) (d : A) (all : List A) (b n : ℕ) (fi
 
   pub part-length : length part ≡ n
   part-length = simp (length-take, length-drop) (omega arith)
+
+  -- the first free place tells whether all n are held
+  module _ (k : ℕ) (e : k ≡ firstFree held part) where
+    pub part-full : n ≤ k → n ≤ count held part
+    part-full f = omega (arith, part-length, none-left held part (omega (arith, part-length)))
+
+    pub part-room : k < n → count held part < n
+    part-room f = omega (arith, part-length, free-left held part (omega (arith, part-length)))
 
   step : (i : ℕ) → i < n → firstFree held (drop i part) ≡ cond (held (getD all (b + i) d)) (suc (firstFree held (drop (suc i) part))) 0
   unfolding firstFree

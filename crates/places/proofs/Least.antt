@@ -8,7 +8,9 @@ use native.Mathlib.Numerals.{add-one}
 use native.Mathlib.Omega.{arith}
 use lib.ListN.{length, getD, drop, drop-of-length-le}
 use lib.Seq.{drop-cons}
+use Rattle.places.specs.Places.{count}
 use Rattle.places.specs.Choice.{Key, comesBefore, Choice, nothing, at, better, least, leastHeld, placeOr, Leads}
+use Rattle.places.proofs.Count.{count-none, count-some}
 use Rattle.places.proofs.Order.{not-self, not-earlier}
 
 -- a scan has come to place i of n with the place `best`, n while none is held
@@ -140,3 +142,12 @@ module _ {A : Type 0} (held : A → Bool) (key : ℕ → A → Key) (free : A) (
       go : (x : Choice A) → Held xs x → ((i : ℕ) → held (getD xs i free) ≡ true → Ahead i (getD xs i free) x) → Leads held key free xs x
       go nothing g f = f
       go (at k x) g f = (g .0, g .1, g .2, f)
+
+  -- there is a choice exactly where some place is held
+  pub none-held : (xs : List A) → leastHeld held key xs ≡ nothing → count held xs ≡ 0
+  none-held xs e = count-none held xs free (subst (Leads held key free xs) e (leads xs))
+
+  pub some-held : (xs : List A) (k : ℕ) (x : A) → leastHeld held key xs ≡ at k x → 0 < count held xs
+  some-held xs k x e =
+      let l : Leads held key free xs (at k x) = subst (Leads held key free xs) e (leads xs) in
+      count-some held xs k free (l .0) (ap held (l .1) ∙ l .2)

@@ -14,6 +14,11 @@ unfoldable pub count : {A : Type 0} → (A → Bool) → List A → ℕ
 count test [] = 0
 count test (x ∷ xs) = bit (test x) + count test xs
 
+-- how many places of a list that starts at place k pass a test of the place and of what it holds
+unfoldable pub countAt : {A : Type 0} → (ℕ → A → Bool) → ℕ → List A → ℕ
+countAt test k [] = 0
+countAt test k (x ∷ xs) = bit (test k x) + countAt test (suc k) xs
+
 -- the places of one flow, where each flow has n
 abbrev pub placesOf : {A : Type 0} → ℕ → ℕ → List A → List A
 placesOf n flow xs = take n (drop (flow * n) xs)

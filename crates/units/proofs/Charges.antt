@@ -3,7 +3,7 @@ use mathlib.Core.Path.{_≡_, refl, ap, sym, _∙_}
 use mathlib.Core.Bool.{Bool, true, false, _&&_, true≢false, false≢true}
 use Prim.Native.Nat.{ℕ, zero, suc, _+_, _*_, _-_, _≤_, _<_}
 use native.Mathlib.Decide.{decLt}
-use native.Mathlib.Nat.{not-suc-le-zero}
+use native.Mathlib.Nat.{not-suc-le-zero, le-mul-of-pos-right}
 use native.Mathlib.Omega.{arith}
 use borrow.Author.Tests.{eqb-true}
 use lib.Dec.{eqb}
@@ -43,3 +43,13 @@ product-rule weight good =
     eqb-true (getD charges (weight - 1) 0 * (weight - 1 + 1)) byteUnits (at-each entry 16 entries (weight - 1) (omega arith)) in
     let w : weight - 1 + 1 ≡ weight = omega arith in
     rw good (rw w at e)
+
+-- no byte costs more than a byte at weight 1
+pub charge-most : (weight : ℕ) → chargeOf weight ≤ byteUnits
+charge-most weight = go (badWeight weight) refl
+  where
+    go : (t : Bool) → badWeight weight ≡ t → chargeOf weight ≤ byteUnits
+    go true p = rw p (omega arith)
+    go false p =
+        let l = inside weight 16 p in
+        omega (arith, product-rule weight p, le-mul-of-pos-right {m = weight} (chargeOf weight) (omega arith))

@@ -12,7 +12,7 @@ use Rattle.units.specs.Refusals.{firstOf}
 use Rattle.units.specs.declared.Refusal.the-variants.{NoSuchFlow, NotOpen, AlreadyOpen, BeyondLimit, PlacesFull, SlotsUsedUp}
 use Rattle.places.specs.Places.{count, placesOf, firstFree, clearedAll}
 use Rattle.places.specs.Choice.{Choice, nothing, at, leastHeld}
-use Rattle.places.proofs.Free.{free-left, none-left, part-length}
+use Rattle.places.proofs.Free.{part-full, part-room}
 use Rattle.urgent.specs.declared.Cell.{Cell}
 use Rattle.urgent.specs.declared.Urgent.{Urgent}
 use Rattle.urgent.specs.declared.Answer.the-variants.{Accepted, Sent, Idle}
@@ -49,14 +49,11 @@ module _ (u : Urgent) (flow : ℕ) where
 
     -- k is the flow's first free place
     module _ (o : not (flowAt u flow .opened) ≡ false) (l : length (u .cells) ≡ 256) (k : ℕ) (e : k ≡ firstFree isHeld (placesOf placeCount flow (u .cells))) where
-      sixteen : length (placesOf placeCount flow (u .cells)) ≡ 16
-      sixteen = part-length isHeld freeCell (u .cells) (flow * 16) 16 (omega arith)
-
       full : 16 ≤ k → 16 ≤ count isHeld (placesOf placeCount flow (u .cells))
-      full f = omega (arith, sixteen, none-left isHeld (placesOf placeCount flow (u .cells)) (omega (arith, sixteen)))
+      full = part-full isHeld freeCell (u .cells) (flow * 16) 16 (omega arith) k e
 
       room : k < 16 → count isHeld (placesOf placeCount flow (u .cells)) < 16
-      room f = omega (arith, sixteen, free-left isHeld (placesOf placeCount flow (u .cells)) (omega (arith, sixteen)))
+      room = part-room isHeld freeCell (u .cells) (flow * 16) 16 (omega arith) k e
 
       pub offer-5 : 16 ≤ k → refused u PlacesFull ≡ offerOf u flow
       unfolding offerOf firstOf

@@ -1,5 +1,7 @@
--- The number and the values that the rules give for each answer of the urgent lane.
+-- The number and the values that the rules give for each answer of the urgent lane, and the refusal in it.
 use mathlib.Core.List.{[], _∷_}
+use mathlib.Core.Option.{Option, none, some}
+use Rattle.units.specs.declared.Refusal.{Refusal}
 use Rattle.units.specs.Answers.{Told, refusal, values}
 use Rattle.urgent.specs.declared.Answer.{Answer}
 use Rattle.urgent.specs.declared.Answer.the-variants.{Refused, Opened, Accepted, Sent, Idle}
@@ -11,3 +13,10 @@ told Opened = values []
 told (Accepted number last) = values (number ∷ last .0 ∷ [])
 told (Sent flow number missed) = values (flow ∷ number ∷ missed ∷ [])
 told (Idle missed) = values (missed ∷ [])
+
+abbrev pub refusalIn : Answer → Option Refusal
+refusalIn (Refused r) = some r
+refusalIn Opened = none
+refusalIn (Accepted number last) = none
+refusalIn (Sent flow number missed) = none
+refusalIn (Idle missed) = none

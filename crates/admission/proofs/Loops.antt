@@ -1,0 +1,97 @@
+-- The turns of the core's loops, each over what is left to do: the declarations of a table from the k-th on, and the slots from t on.
+use mathlib.Core.Path.{_≡_, refl, sym, _∙_}
+use mathlib.Core.Bool.{Bool, true, false}
+use mathlib.Core.List.{List, [], _∷_}
+use Prim.Native.Nat.{ℕ, suc, _+_, _-_, _≤_, _<_}
+use native.Mathlib.Nat.{div-le-self}
+use native.Mathlib.Numerals.{add-one}
+use native.Mathlib.Omega.{arith}
+use lib.Dec.{ltb, leb}
+use lib.ListN.{length, length-map, drop, getD, drop-of-length-le}
+use lib.Seq.{drop-cons, getD-take, length-take-le}
+use mir.Val.{Val}
+use denote.Laws.{Is}
+use denote.Struct.Laws as LL
+use Rattle.units.specs.Limits.{badDeadline}
+use Rattle.admission.proofs.Table as S
+use Rattle.admission.proofs.Table.Laws as S′
+use Rattle.admission.specs.declared.Declaration.{Declaration}
+use Rattle.admission.specs.declared.Table.{Table}
+use Rattle.admission.specs.declared.Fault.the-variants.{Burst, Period, Deadline}
+use Rattle.admission.specs.declared.Verdict.the-variants.{Admitted, FailsAt}
+use Rattle.admission.specs.Limits.{badBurst, badPeriod}
+use Rattle.admission.specs.Tables.{noDeclaration, heldOf}
+use Rattle.admission.specs.Demand.{demandOne, demandOf, failsFrom, Lawful}
+use Rattle.admission.specs.Verdicts.{firstBad}
+
+-- a table that is owned has sixteen places
+pub sixteen : (table : Table) (vs : List Val) → Is S.the-row table vs → length (table .items) ≡ 16
+sixteen table vs is = sym (length-map (table .items) _) ∙ LL.owed S.the-type S′.the-laws table vs is .1 .0 .1 .0 .1
+
+-- one turn of a loop over a table: the declaration at k, and those after it
+module _ (table : Table) (len : length (table .items) ≡ 16) (few : table .count ≤ 16) (k : ℕ) where
+  pub none-left : table .count ≤ k → drop k (heldOf table) ≡ []
+  none-left l = drop-of-length-le (heldOf table) {i = k} (rw (length-take-le (table .count) (table .items) (omega arith)) l)
+
+  module _ (l : k < table .count) where
+    next : drop k (heldOf table) ≡ getD (table .items) k noDeclaration ∷ drop (k + 1) (heldOf table)
+    next =
+        let held : length (heldOf table) ≡ table .count = length-take-le (table .count) (table .items) (omega arith) in
+        rw (drop-cons (heldOf table) k noDeclaration (omega arith), getD-take (table .count) (table .items) k noDeclaration l, add-one)
+
+    pub demand-next : (t : ℕ) → demandOf (drop k (heldOf table)) t ≡ demandOne (getD (table .items) k noDeclaration) t + demandOf (drop (k + 1) (heldOf table)) t
+    unfolding demandOf
+    demand-next t = rw next
+
+    pub burst-stops : badBurst (getD (table .items) k noDeclaration .burst) ≡ true → firstBad k (drop k (heldOf table)) ≡ Burst k
+    unfolding firstBad
+    burst-stops e = rw (next, e)
+
+    module _ (burst : badBurst (getD (table .items) k noDeclaration .burst) ≡ false) where
+      pub period-stops : badPeriod (getD (table .items) k noDeclaration .period) ≡ true → firstBad k (drop k (heldOf table)) ≡ Period k
+      unfolding firstBad
+      period-stops e = rw (next, burst, e)
+
+      module _ (period : badPeriod (getD (table .items) k noDeclaration .period) ≡ false) where
+        pub deadline-stops : badDeadline (getD (table .items) k noDeclaration .deadline) ≡ true → firstBad k (drop k (heldOf table)) ≡ Deadline k
+        unfolding firstBad
+        deadline-stops e = rw (next, burst, period, e)
+
+        pub good-next : badDeadline (getD (table .items) k noDeclaration .deadline) ≡ false → firstBad k (drop k (heldOf table)) ≡ firstBad (k + 1) (drop (k + 1) (heldOf table))
+        unfolding firstBad
+        good-next e = rw (next, burst, period, e, add-one)
+
+-- by slot t one declaration can have no more cells due than its burst and t
+pub demand-most : (d : Declaration) (t : ℕ) → Lawful d → demandOne d t ≤ 16 + t
+demand-most d t w = go (leb (d .deadline) t) refl
+  where
+    go : (due : Bool) → leb (d .deadline) t ≡ due → demandOne d t ≤ 16 + t
+    go true e = rw e (omega (arith, w .burst16, div-le-self (t - d .deadline) (d .period)))
+    go false e = rw e (omega (arith, w .burst16))
+
+-- a slot that passes, one that fails, and the end of the slots
+pub passes : (k t : ℕ) (ds : List Declaration) → ltb t (demandOf ds t) ≡ false → failsFrom (suc k) t ds ≡ failsFrom k (suc t) ds
+unfolding failsFrom
+passes k t ds e = rw (e, failsFrom)
+
+pub fails : (k t : ℕ) (ds : List Declaration) → ltb t (demandOf ds t) ≡ true → failsFrom (suc k) t ds ≡ FailsAt t
+unfolding failsFrom
+fails k t ds e = rw (e, failsFrom)
+
+pub ends : (t : ℕ) (ds : List Declaration) → failsFrom 0 t ds ≡ Admitted
+unfolding failsFrom
+ends t ds = refl
+
+-- the same of the slots from t to a horizon h
+module _ (h t : ℕ) (ds : List Declaration) where
+  pub slot-passes : t ≤ h → ltb t (demandOf ds t) ≡ false → failsFrom (h + 1 - t) t ds ≡ failsFrom (h + 1 - (t + 1)) (t + 1) ds
+  slot-passes l e =
+      let n : h + 1 - t ≡ suc (h - t) = omega arith in
+      let m : h + 1 - (t + 1) ≡ h - t = omega arith in
+      rw (n, m, add-one) (passes (h - t) t ds e)
+
+  pub slot-fails : t ≤ h → ltb t (demandOf ds t) ≡ true → failsFrom (h + 1 - t) t ds ≡ FailsAt t
+  slot-fails l e = let n : h + 1 - t ≡ suc (h - t) = omega arith in rw n (fails (h - t) t ds e)
+
+  pub slots-end : h < t → failsFrom (h + 1 - t) t ds ≡ Admitted
+  slots-end l = let n : h + 1 - t ≡ 0 = omega arith in rw n (ends t ds)

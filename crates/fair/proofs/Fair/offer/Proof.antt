@@ -1,0 +1,204 @@
+-- `Fair::offer` meets its contract. The loop goes from the flow's last place to its first. Its invariant: k is the first
+-- free place from i on, or 16. The measure is i. The next number fits, since one past the limit was refused.
+use mathlib.Core.Path.{_≡_, sym, _∙_}
+use mathlib.Core.Bool.{false}
+use Prim.Native.Nat.{_+_, _*_, _≤_}
+use native.Mathlib.Omega.{arith}
+use borrow.Author.Needs.{needs}
+use lib.ListN.{length, drop, length-map}
+use Rattle.units.specs.Limits.{badLength}
+use Rattle.places.specs.Places.{firstFree, placesOf}
+use Rattle.places.proofs.Free.{scan-starts, scan-free, scan-held, scan-ends}
+use Rattle.tags.specs.Tags.{isHeld, freePacket}
+use Rattle.fair.proofs.Calls.{offer-1, offer-2, offer-4, offer-5, offer-6-number, offer-6-finish, offer-ok}
+use Rattle.fair.proofs.Fair.offer.Statement.{statement}
+use Rattle.fair.proofs.Fair.offer.Tie as tie
+
+abbrev Inv-loop : tie.InvT-loop
+Inv-loop flow len self f was k₀ i₀ k i = (i ≤ 16) × (k ≡ i + firstFree isHeld (drop i (placesOf 16 f (self .packets))))
+
+abbrev μ-loop : tie.MeasureT-loop
+μ-loop flow len self f was k₀ i₀ k i = i
+
+packets-known : (s : tie.Start Inv-loop μ-loop) → length (s .args .t1 .packets) ≡ 256
+packets-known s = sym (length-map (s .args .t1 .packets) _) ∙ s .good .0 .1 .1 .1 .1 .1 .1 .0 .1 .0 .1
+
+-- the length is a packet's
+good-length : (e : tie.Else3 Inv-loop μ-loop) → badLength (e .before .before .before .before .before .before .args .length) ≡ false
+good-length e = sym (e .before .bad-length .ensures) ∙ e .if3 .left
+
+-- after the scan k is the flow's first free place
+scanned : (a : tie.After-loop Inv-loop μ-loop)
+    → a .before .loop .k ≡ firstFree isHeld (placesOf 16 (a .before .before .before .before .before .before .before .before .args .flow) (a .before .before .before .before .before .before .before .before .args .t1 .packets))
+scanned a =
+    let start = a .before .before .before .before .before .before .before .before in
+    scan-ends isHeld freePacket (start .args .t1 .packets) (start .args .flow * 16) 16 (omega (arith, packets-known start)) (a .before .loop .i) (a .before .loop .k) (a .loop-test .left) (a .before .loop .inv .1)
+
+returns : tie.Need-returns Inv-loop μ-loop
+returns c = offer-1 (c .before .args .t1) (c .before .args .flow) (c .before .args .length) (search needs)
+
+mul-was : tie.Need-mul-was Inv-loop μ-loop
+mul-was c = search needs
+
+element-copy-out-was : tie.Need-element-copy-out-was Inv-loop μ-loop
+element-copy-out-was c = search needs
+
+returns-2 : tie.Need-returns-2 Inv-loop μ-loop
+returns-2 c =
+    let s = c .before .before .before .before .args in
+    offer-2 (s .t1) (s .flow) (s .length) (search needs) (c .if2 .taken)
+
+bad-length-requires : tie.Need-bad-length-requires Inv-loop μ-loop
+bad-length-requires c κs = search needs
+
+returns-3 : tie.Need-returns-3 Inv-loop μ-loop
+returns-3 c =
+    let s = c .before .before .before .before .before .before .args in
+    offer-4 (s .t1) (s .flow) (s .length) (search needs) (c .before .before .if2 .left) (sym (c .before .bad-length .ensures) ∙ c .if3 .taken)
+
+loop-holds : tie.Need-loop-holds Inv-loop μ-loop
+loop-holds c =
+    let start = c .before .before .before .before .before .before in
+    (search needs, scan-starts isHeld freePacket (start .args .t1 .packets) (start .args .flow * 16) 16 (omega (arith, packets-known start)))
+
+sub-i : tie.Need-sub-i Inv-loop μ-loop
+sub-i c = search needs
+
+mul-p : tie.Need-mul-p Inv-loop μ-loop
+mul-p c = search needs
+
+add-p : tie.Need-add-p Inv-loop μ-loop
+add-p c = search needs
+
+mul-p-2 : tie.Need-mul-p-2 Inv-loop μ-loop
+mul-p-2 c = search needs
+
+element-copy-out-p : tie.Need-element-copy-out-p Inv-loop μ-loop
+element-copy-out-p c = search needs
+
+loop-less : tie.Need-loop-less Inv-loop μ-loop
+loop-less c = search needs
+
+loop-again : tie.Need-loop-again Inv-loop μ-loop
+loop-again c =
+    let at-loop = c .before .before .before .before in
+    let start = at-loop .before .before .before .before .before .before .before in
+    let u = start .args .t1 in
+    let f = start .args .flow in
+    let fits : f * 16 + 16 ≤ length (u .packets) = omega (arith, packets-known start) in
+    (search needs, scan-free isHeld freePacket (u .packets) (f * 16) 16 fits (at-loop .loop .i) (search needs) (search needs) (c .if4 .taken))
+
+loop-less-2 : tie.Need-loop-less-2 Inv-loop μ-loop
+loop-less-2 c = search needs
+
+loop-again-2 : tie.Need-loop-again-2 Inv-loop μ-loop
+loop-again-2 c =
+    let at-loop = c .before .before .before .before in
+    let start = at-loop .before .before .before .before .before .before .before in
+    let u = start .args .t1 in
+    let f = start .args .flow in
+    let fits : f * 16 + 16 ≤ length (u .packets) = omega (arith, packets-known start) in
+    (search needs, scan-held isHeld freePacket (u .packets) (f * 16) 16 fits (at-loop .loop .i) (at-loop .loop .k) (search needs) (search needs) (at-loop .loop .inv .1) (c .if4 .left))
+
+returns-4 : tie.Need-returns-4 Inv-loop μ-loop
+returns-4 c =
+    let after = c .before in
+    let long = after .before .before in
+    let start = long .before .before .before .before .before .before in
+    offer-5 (start .args .t1) (start .args .flow) (start .args .length) (search needs) (long .before .before .if2 .left) (good-length long) (packets-known start) (after .before .loop .k) (scanned after) (c .if5 .taken)
+
+returns-5 : tie.Need-returns-5 Inv-loop μ-loop
+returns-5 c =
+    let after = c .before .before .before in
+    let long = after .before .before in
+    let start = long .before .before .before .before .before .before in
+    offer-6-number (start .args .t1) (start .args .flow) (start .args .length) (search needs) (long .before .before .if2 .left) (good-length long) (packets-known start) (after .before .loop .k) (scanned after) (search needs) (c .if6 .taken)
+
+later-requires : tie.Need-later-requires Inv-loop μ-loop
+later-requires c κs = search needs
+
+finish-of-requires : tie.Need-finish-of-requires Inv-loop μ-loop
+finish-of-requires c κs = search needs
+
+enum-told : tie.Need-enum-told Inv-loop μ-loop
+enum-told c = search needs
+
+enum-known-ends : tie.Need-enum-known-ends Inv-loop μ-loop
+enum-known-ends c = search needs
+
+mul-t48 : tie.Need-mul-t48 Inv-loop μ-loop
+mul-t48 c = search needs
+
+add-t49 : tie.Need-add-t49 Inv-loop μ-loop
+add-t49 c = search needs
+
+mul-t50 : tie.Need-mul-t50 Inv-loop μ-loop
+mul-t50 c = search needs
+
+element-set-from-self : tie.Need-element-set-from-self Inv-loop μ-loop
+element-set-from-self c = search needs
+
+add-t53 : tie.Need-add-t53 Inv-loop μ-loop
+add-t53 c = search needs
+
+mul-t48-2 : tie.Need-mul-t48-2 Inv-loop μ-loop
+mul-t48-2 c = search needs
+
+element-set-from-self-2 : tie.Need-element-set-from-self-2 Inv-loop μ-loop
+element-set-from-self-2 c = search needs
+
+returns-6 : tie.Need-returns-6 Inv-loop μ-loop
+returns-6 c =
+    let found = c .before .before in
+    let after = found .before .before .before .before .before .before .before in
+    let long = after .before .before in
+    let start = long .before .before .before .before .before .before in
+    offer-6-finish (start .args .t1) (start .args .flow) (start .args .length) (search needs) (long .before .before .if2 .left) (good-length long) (packets-known start) (after .before .loop .k) (scanned after) (found .before .before .before .before .before .before .if5 .left) (found .before .before .before .before .if6 .left) (found .before .later .result) (found .before .later .ensures) (found .finish-of .result) (found .finish-of .ensures)
+    (c .enum-told .given .1)
+
+returns-7 : tie.Need-returns-7 Inv-loop μ-loop
+returns-7 c =
+    let found = c .before .before .before .before in
+    let after = found .before .before .before .before .before .before .before in
+    let long = after .before .before in
+    let start = long .before .before .before .before .before .before in
+    offer-ok (start .args .t1) (start .args .flow) (start .args .length) (search needs) (long .before .before .if2 .left) (good-length long) (packets-known start) (after .before .loop .k) (scanned after) (found .before .before .before .before .before .before .if5 .left) (found .before .before .before .before .if6 .left) (found .before .later .result) (found .before .later .ensures) (found .finish-of .result) (found .finish-of .ensures)
+    (c .before .before .ends .given .0 .0) (c .before .before .ends .given .1)
+
+pub offer-spec : {M : Type 1} → statement M
+offer-spec =
+    tie.close
+    (tie.spec
+    Inv-loop
+    μ-loop
+    returns
+    mul-was
+    element-copy-out-was
+    returns-2
+    bad-length-requires
+    returns-3
+    loop-holds
+    sub-i
+    mul-p
+    add-p
+    mul-p-2
+    element-copy-out-p
+    loop-less
+    loop-again
+    loop-less-2
+    loop-again-2
+    returns-4
+    returns-5
+    later-requires
+    finish-of-requires
+    enum-told
+    enum-known-ends
+    mul-t48
+    add-t49
+    mul-t50
+    element-set-from-self
+    add-t53
+    mul-t48-2
+    element-set-from-self-2
+    returns-6
+    returns-7)

@@ -1,0 +1,4 @@
+pub mod Calls
+pub mod Laws
+pub mod Refused
+pub mod Cases

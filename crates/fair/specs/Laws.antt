@@ -1,0 +1,59 @@
+-- What holds of the lane's definitions in every state.
+use mathlib.Core.Path.{_≡_}
+use mathlib.Core.Bool.{true, false}
+use mathlib.Core.Option.{some}
+use Prim.Native.Nat.{ℕ, _<_}
+use lib.ListN.{length, getD}
+use Rattle.units.specs.Limits.{placeCount}
+use Rattle.units.specs.Refusals.{Rises, firstOf}
+use Rattle.units.specs.declared.Refusal.{Refusal}
+use Rattle.units.specs.declared.Tag.{Tag}
+use Rattle.places.specs.Places.{flowOf}
+use Rattle.places.specs.Choice.{comesBefore}
+use Rattle.tags.specs.declared.Packet.{Packet}
+use Rattle.tags.specs.Tags.{freePacket, isHeld}
+use Rattle.fair.specs.declared.Fair.{Fair}
+use Rattle.fair.specs.declared.Answer.the-variants.{Begun}
+use Rattle.tags.specs.Grounds.{openingGrounds, offeringGrounds}
+use Rattle.fair.specs.Lane.{flowAt, waitingOf, startOf, keyOf, beginGrounds, endGrounds}
+use Rattle.fair.specs.Calls.{openOf, offerOf, beginOf, endOf}
+use Rattle.fair.specs.Answers.{refusalIn}
+
+-- what a place holds
+abbrev pub packetAt : Fair → ℕ → Packet
+packetAt u place = getD (u .packets) place freePacket
+
+-- the packet that was answered waited in some place, and no waiting packet comes before it by start tag, flow and number
+pub record Taken (u : Fair) (flow number bytes : ℕ) (start : Tag) : Type 0 where
+  pub place : ℕ
+  pub within : place < length (u .packets)
+  pub waited : isHeld (packetAt u place) ≡ true
+  pub flow-told : flow ≡ flowOf placeCount place
+  pub number-told : number ≡ packetAt u place .number
+  pub length-told : bytes ≡ packetAt u place .length
+  pub start-told : start ≡ packetAt u place .start
+  pub goes-first : (other : ℕ) → isHeld (packetAt u other) ≡ true → comesBefore (keyOf other (packetAt u other)) (keyOf place (packetAt u place)) ≡ false
+
+-- Every begin that is not refused takes a packet that waited, and no waiting packet comes before it.
+abbrev pub BeginsFirst : Type 0
+BeginsFirst = (u : Fair) (flow number bytes : ℕ) (start : Tag) → beginOf u .answer ≡ Begun flow number bytes start → Taken u flow number bytes start
+
+-- Each call is refused exactly for the first of its grounds that holds.
+pub record RefusedFirst (u : Fair) : Type 0 where
+  pub opening : (flow weight : ℕ) → refusalIn (openOf u flow weight .answer) ≡ firstOf (openingGrounds flow weight (flowAt u flow))
+  pub offering :
+      (flow length : ℕ)
+      → refusalIn (offerOf u flow length .answer) ≡ firstOf (offeringGrounds flow (flowAt u flow) (waitingOf u flow) (startOf u flow) length)
+  pub beginning : refusalIn (beginOf u .answer) ≡ firstOf (beginGrounds u)
+  pub ending : refusalIn (endOf u .answer) ≡ firstOf (endGrounds u)
+
+-- A refused call leaves the lane as it was.
+pub record RefusedSame (u : Fair) (r : Refusal) : Type 0 where
+  pub opening : (flow weight : ℕ) → refusalIn (openOf u flow weight .answer) ≡ some r → openOf u flow weight .lane ≡ u
+  pub offering : (flow length : ℕ) → refusalIn (offerOf u flow length .answer) ≡ some r → offerOf u flow length .lane ≡ u
+  pub beginning : refusalIn (beginOf u .answer) ≡ some r → beginOf u .lane ≡ u
+  pub ending : refusalIn (endOf u .answer) ≡ some r → endOf u .lane ≡ u
+
+-- The numbers of each call's refusals rise, so that the first whose condition holds is the lowest.
+abbrev pub GroundsRise : Type 0
+GroundsRise = (u : Fair) → Rises (beginGrounds u) × Rises (endGrounds u)

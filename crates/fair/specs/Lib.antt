@@ -1,0 +1,4 @@
+pub mod Lane
+pub mod Calls
+pub mod Laws
+pub mod Answers

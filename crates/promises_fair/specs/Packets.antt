@@ -1,0 +1,162 @@
+-- What has become of the fair lane's packets, read off the calls and their answers alone. Each list has the newest first.
+use mathlib.Core.Bool.{Bool, true, false, not, cond, _&&_, _||_}
+use mathlib.Core.List.{List, [], _∷_}
+use Prim.Native.Nat.{ℕ, suc, _+_, max}
+use lib.Dec.{eqb}
+use Rattle.units.specs.Charges.{chargeOf}
+use Rattle.places.specs.Places.{count}
+use Rattle.fair.specs.declared.Answer.{Answer}
+use Rattle.fair.specs.declared.Answer.the-variants.{Refused, Opened, Accepted, Begun, Ended}
+
+-- an opening that was answered ok
+pub record Opening : Type 0 where
+  pub flow : ℕ
+  pub weight : ℕ
+
+-- an accepted packet: its flow, its number, start and finish tags as answered, its length, and the charge of the weight then in force
+pub record Packet : Type 0 where
+  pub flow : ℕ
+  pub number : ℕ
+  pub start : ℕ
+  pub finish : ℕ
+  pub length : ℕ
+  pub charge : ℕ
+
+-- what happened to the service: a packet was begun, as the begin answered, or ended, as the end answered; with the position of the
+-- call in the list of calls, and for an end the finish tag of the packet as it was accepted and how many accepted packets were not
+-- begun then
+pub data Moment : Type 0 where
+  began : (flow number length start position : ℕ) → Moment
+  ceased : (flow number length position finish left : ℕ) → Moment
+
+pub record Packets : Type 0 where
+  -- how many calls there were
+  pub calls : ℕ
+  pub openings : List Opening
+  pub accepted : List Packet
+  pub moments : List Moment
+
+-- before any call
+abbrev pub noPackets : Packets
+noPackets = record { calls = 0; openings = []; accepted = []; moments = [] }
+
+-- the weight in force: that of the newest opening of the flow
+unfoldable pub weightIn : List Opening → ℕ → ℕ
+weightIn [] flow = 0
+weightIn (o ∷ os) flow = cond (eqb (o .flow) flow) (o .weight) (weightIn os flow)
+
+-- an opening of the flow was answered ok
+unfoldable pub openIn : List Opening → ℕ → Bool
+openIn [] flow = false
+openIn (o ∷ os) flow = eqb (o .flow) flow || openIn os flow
+
+-- the finish tag of the flow's last accepted packet, 0 at first
+unfoldable pub lastFinish : List Packet → ℕ → ℕ
+lastFinish [] flow = 0
+lastFinish (a ∷ rest) flow = cond (eqb (a .flow) flow) (a .finish) (lastFinish rest flow)
+
+-- the finish tag of the accepted packet of this flow and number
+unfoldable pub finishIn : List Packet → ℕ → ℕ → ℕ
+finishIn [] flow number = 0
+finishIn (a ∷ rest) flow number = cond (eqb (a .flow) flow && eqb (a .number) number) (a .finish) (finishIn rest flow number)
+
+-- the packet was begun: it is known by its flow and its number
+unfoldable pub wasBegun : List Moment → ℕ → ℕ → Bool
+wasBegun [] flow number = false
+wasBegun (began f n l s p ∷ ms) flow number = (eqb f flow && eqb n number) || wasBegun ms flow number
+wasBegun (ceased f n l p e w ∷ ms) flow number = wasBegun ms flow number
+
+-- an accepted packet waits: it is not begun
+abbrev pub waits : Packets → Packet → Bool
+waits h a = not (wasBegun (h .moments) (a .flow) (a .number))
+
+-- how many packets wait
+abbrev pub waitingAll : Packets → ℕ
+waitingAll h = count (waits h) (h .accepted)
+
+-- a packet is in service: a begin was answered, and no end since
+abbrev pub inService : List Moment → Bool
+inService [] = false
+inService (began f n l s p ∷ ms) = true
+inService (ceased f n l p e w ∷ ms) = false
+
+-- the start tag of the packet last begun, 0 before any
+unfoldable pub lastStart : List Moment → ℕ
+lastStart [] = 0
+lastStart (began f n l s p ∷ ms) = s
+lastStart (ceased f n l p e w ∷ ms) = lastStart ms
+
+-- the largest finish tag of all packets ended, 0 before any
+unfoldable pub largestEnded : List Moment → ℕ
+largestEnded [] = 0
+largestEnded (began f n l s p ∷ ms) = largestEnded ms
+largestEnded (ceased f n l p e w ∷ ms) = max e (largestEnded ms)
+
+-- Virtual time, as source document 001 has it and the rules settle it: after a begin, that packet's start tag; after an end that
+-- left packets waiting, still the start tag of the packet last begun; after an end that left none, the largest finish tag of all
+-- packets ended; 0 before any. Later offers do not move it.
+unfoldable pub virtualTime : List Moment → ℕ
+virtualTime [] = 0
+virtualTime (began f n l s p ∷ ms) = s
+virtualTime (ceased f n l p e w ∷ ms) = cond (eqb w 0) (largestEnded (ceased f n l p e w ∷ ms)) (lastStart ms)
+
+-- a call that changed nothing
+abbrev pub noteOther : Packets → Packets
+noteOther h = record { calls = suc (h .calls); openings = h .openings; accepted = h .accepted; moments = h .moments }
+
+-- an opening call and its answer
+abbrev pub noteOpening : Packets → ℕ → ℕ → Answer → Packets
+noteOpening h flow weight Opened =
+    record {
+      calls = suc (h .calls);
+      openings = record { flow = flow; weight = weight } ∷ h .openings;
+      accepted = h .accepted;
+      moments = h .moments;
+    }
+noteOpening h flow weight (Refused r) = noteOther h
+noteOpening h flow weight (Accepted number start finish) = noteOther h
+noteOpening h flow weight (Begun f number length start) = noteOther h
+noteOpening h flow weight (Ended f number length) = noteOther h
+
+-- an offering call and its answer
+abbrev pub noteOffer : Packets → ℕ → ℕ → Answer → Packets
+noteOffer h flow length (Accepted number start finish) =
+    record {
+      calls = suc (h .calls);
+      openings = h .openings;
+      accepted =
+          record {
+            flow = flow;
+            number = number;
+            start = start .0;
+            finish = finish .0;
+            length = length;
+            charge = chargeOf (weightIn (h .openings) flow);
+          }
+          ∷ h .accepted;
+      moments = h .moments;
+    }
+noteOffer h flow length (Refused r) = noteOther h
+noteOffer h flow length Opened = noteOther h
+noteOffer h flow length (Begun f number l start) = noteOther h
+noteOffer h flow length (Ended f number l) = noteOther h
+
+-- a begin or an end and its answer
+abbrev pub noteService : Packets → Answer → Packets
+noteService h (Begun flow number length start) =
+    record {
+      calls = suc (h .calls);
+      openings = h .openings;
+      accepted = h .accepted;
+      moments = began flow number length (start .0) (h .calls) ∷ h .moments;
+    }
+noteService h (Ended flow number length) =
+    record {
+      calls = suc (h .calls);
+      openings = h .openings;
+      accepted = h .accepted;
+      moments = ceased flow number length (h .calls) (finishIn (h .accepted) flow number) (waitingAll h) ∷ h .moments;
+    }
+noteService h (Refused r) = noteOther h
+noteService h Opened = noteOther h
+noteService h (Accepted number start finish) = noteOther h

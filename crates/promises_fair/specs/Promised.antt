@@ -1,0 +1,120 @@
+-- The promises of the fair lane, each as a statement about a lane and what the calls and answers so far tell of its packets.
+use mathlib.Core.Path.{_≡_}
+use mathlib.Core.Bool.{Bool, true, false, _&&_}
+use mathlib.Core.List.{List, [], _∷_}
+use Prim.Native.Nat.{ℕ, suc, _+_, _*_, _≤_, _<_, max}
+use lib.Dec.{eqb}
+use Rattle.units.specs.Limits.{placeCount, tagLimit}
+use Rattle.units.specs.Charges.{chargeOf}
+use Rattle.places.specs.Members.{Each, Some}
+use Rattle.places.specs.Places.{bit, count, countAt, flowOf}
+use Rattle.places.specs.Choice.{Key, comesBefore}
+use Rattle.tags.specs.declared.Packet.{Packet as Place}
+use Rattle.fair.specs.declared.Fair.{Fair}
+use Rattle.fair.specs.declared.Answer.{Answer}
+use Rattle.fair.specs.declared.Answer.the-variants.{Refused, Opened, Accepted, Begun, Ended}
+use Rattle.fair.specs.Lane.{flowAt}
+use Rattle.fair.specs.Calls.{offerOf, beginOf, endOf}
+use Rattle.promises_fair.specs.Packets.{Packet, Moment, began, ceased, Packets, weightIn, lastFinish, waits, virtualTime, noteService}
+
+-- how many packets of a flow were accepted
+abbrev pub acceptedOf : Packets → ℕ → ℕ
+acceptedOf h flow = count (λ (a : Packet). eqb (a .flow) flow) (h .accepted)
+
+-- a packet offered now: its start tag is the larger of virtual time and the finish of its flow's packet before it, 0 at first
+abbrev pub startIn : Packets → ℕ → ℕ
+startIn h flow = max (virtualTime (h .moments)) (lastFinish (h .accepted) flow)
+
+-- and its finish tag is that and its length times the charge in force
+abbrev pub finishTag : Packets → ℕ → ℕ → ℕ
+finishTag h flow length = startIn h flow + length * chargeOf (weightIn (h .openings) flow)
+
+-- F1: the state's virtual time is the published one, and a packet that is accepted is answered the published tags.
+abbrev pub Tagged : Packets → ℕ → ℕ → Answer → Type 0
+Tagged h flow length (Accepted number start finish) =
+    (number ≡ acceptedOf h flow) × (start .0 ≡ startIn h flow) × (finish .0 ≡ finishTag h flow length)
+Tagged h flow length (Refused r) = Unit {0}
+Tagged h flow length Opened = ⊥
+Tagged h flow length (Begun f n l s) = ⊥
+Tagged h flow length (Ended f n l) = ⊥
+
+pub record AsPublished (u : Fair) (h : Packets) : Type 0 where
+  pub time : u .time .0 ≡ virtualTime (h .moments)
+  pub tags : (flow length : ℕ) → Tagged h flow length (offerOf u flow length .answer)
+
+-- a question about a packet: its flow, its number, its length and its tags
+abbrev pub Question : Type 0
+Question = (flow number length start finish : ℕ) → Bool
+
+abbrev pub holds : Question → ℕ → Place → Bool
+holds ask place p = p .held && ask (flowOf placeCount place) (p .number) (p .length) (p .start .0) (p .finish .0)
+
+-- what begin's choice goes by
+abbrev pub packetKey : Packet → Key
+packetKey a = record { rank = a .start; flow = a .flow; number = a .number }
+
+-- F2: begin takes a packet accepted and not begun, answers its flow, number, length and start tag as at its acceptance, and no such
+-- packet comes before it by start tag and flow.
+abbrev pub First : Packets → Answer → Type 0
+First h (Begun flow number length start) =
+    Some
+    (λ (a : Packet).
+        (waits h a ≡ true)
+        × (a .flow ≡ flow)
+        × (a .number ≡ number)
+        × (a .length ≡ length)
+        × (a .start ≡ start .0)
+        × Each (λ (b : Packet). waits h b ≡ true → comesBefore (packetKey b) (packetKey a) ≡ false) (h .accepted))
+    (h .accepted)
+First h (Refused r) = Unit {0}
+First h Opened = ⊥
+First h (Accepted n s f) = ⊥
+First h (Ended f n l) = ⊥
+
+-- how many packets of a flow were begun
+unfoldable pub begunOf : List Moment → ℕ → ℕ
+begunOf [] flow = 0
+begunOf (began f n l s p ∷ ms) flow = bit (eqb f flow) + begunOf ms flow
+begunOf (ceased f n l p e w ∷ ms) flow = begunOf ms flow
+
+-- within a flow packets are begun in the order of their numbers, from 0
+abbrev pub InOrder : List Moment → Type 0
+InOrder [] = Unit {0}
+InOrder (began f n l s p ∷ ms) = (n ≡ begunOf ms f) × InOrder ms
+InOrder (ceased f n l p e w ∷ ms) = InOrder ms
+
+-- F2: the places held are, packet for packet, those accepted and not begun: whatever is asked of a packet, as many places as waiting
+-- packets answer to it.
+pub record ServedInOrder (u : Fair) (h : Packets) : Type 0 where
+  pub first : First h (beginOf u .answer)
+  pub inOrder : InOrder (h .moments)
+  pub packetForPacket :
+      (ask : Question)
+      → countAt (holds ask) 0 (u .packets)
+      ≡ count (λ (a : Packet). ask (a .flow) (a .number) (a .length) (a .start) (a .finish) && waits h a) (h .accepted)
+
+-- F3: end answers flow, number and length of the packet last begun.
+abbrev pub LastBegun : List Moment → Answer → Type 0
+LastBegun (began f n l s p ∷ ms) (Ended flow number length) = (flow ≡ f) × (number ≡ n) × (length ≡ l)
+LastBegun (ceased f n l p e w ∷ ms) (Ended flow number length) = ⊥
+LastBegun [] (Ended flow number length) = ⊥
+LastBegun ms (Refused r) = Unit {0}
+LastBegun ms Opened = ⊥
+LastBegun ms (Accepted n s f) = ⊥
+LastBegun ms (Begun f n l s) = ⊥
+
+-- F3: a flow's packets are numbered from 0
+abbrev pub Numbered : List Packet → Type 0
+Numbered [] = Unit {0}
+Numbered (a ∷ rest) = (a .number ≡ count (λ (b : Packet). eqb (b .flow) (a .flow)) rest) × Numbered rest
+
+pub record EndsAndNumbers (u : Fair) (h : Packets) : Type 0 where
+  pub ends : LastBegun (h .moments) (endOf u .answer)
+  pub numbered : Numbered (h .accepted)
+  -- and no number comes near the end of its type
+  pub fewNumbers : (flow : ℕ) → flow < 16 → flowAt u flow .next ≤ suc tagLimit
+
+-- F4: virtual time never falls.
+pub record NeverFalls (u : Fair) (h : Packets) : Type 0 where
+  pub begins : virtualTime (h .moments) ≤ virtualTime (noteService h (beginOf u .answer) .moments)
+  pub ends : virtualTime (h .moments) ≤ virtualTime (noteService h (endOf u .answer) .moments)

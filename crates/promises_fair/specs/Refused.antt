@@ -1,0 +1,46 @@
+-- S4 in the fair lane: what a call is refused for, read off the calls and answers so far and not off the lane.
+use mathlib.Core.Path.{_≡_}
+use mathlib.Core.Bool.{not, _&&_, _||_}
+use mathlib.Core.List.{List, [], _∷_}
+use Prim.Native.Nat.{ℕ}
+use lib.Dec.{leb, ltb, eqb}
+use Rattle.units.specs.Limits.{placeCount, tagLimit, noSuchFlow, badWeight, badLength}
+use Rattle.units.specs.Refusals.{Ground, firstOf}
+use Rattle.units.specs.declared.Refusal.the-variants.{NoSuchFlow, NotOpen, AlreadyOpen, BeyondLimit, PlacesFull, TagsUsedUp, PacketInService, NothingWaits, NothingInService}
+use Rattle.places.specs.Places.{count}
+use Rattle.fair.specs.declared.Fair.{Fair}
+use Rattle.fair.specs.Answers.{refusalIn}
+use Rattle.fair.specs.Calls.{openOf, offerOf, beginOf, endOf}
+use Rattle.promises_fair.specs.Packets.{Packet, Packets, openIn, waits, waitingAll, inService}
+use Rattle.promises_fair.specs.Promised.{acceptedOf, finishTag}
+
+-- how many packets of a flow wait
+abbrev pub waitingIn : Packets → ℕ → ℕ
+waitingIn h flow = count (λ (a : Packet). eqb (a .flow) flow && waits h a) (h .accepted)
+
+-- open: an opening of the flow was answered ok; waiting: accepted and not begun; in service: a begin answered and no end since
+abbrev pub openingTold : Packets → ℕ → ℕ → List Ground
+openingTold h flow weight =
+    (NoSuchFlow, noSuchFlow flow) ∷ (AlreadyOpen, openIn (h .openings) flow) ∷ (BeyondLimit, badWeight weight) ∷ []
+
+abbrev pub offeringTold : Packets → ℕ → ℕ → List Ground
+offeringTold h flow length =
+    (NoSuchFlow, noSuchFlow flow)
+    ∷ (NotOpen, not (openIn (h .openings) flow))
+    ∷ (BeyondLimit, badLength length)
+    ∷ (PlacesFull, leb placeCount (waitingIn h flow))
+    ∷ (TagsUsedUp, ltb tagLimit (finishTag h flow length) || ltb tagLimit (acceptedOf h flow))
+    ∷ []
+
+abbrev pub beginTold : Packets → List Ground
+beginTold h = (PacketInService, inService (h .moments)) ∷ (NothingWaits, eqb (waitingAll h) 0) ∷ []
+
+abbrev pub endTold : Packets → List Ground
+endTold h = (NothingInService, not (inService (h .moments))) ∷ []
+
+-- S4: each call is refused exactly as the calls and answers so far tell.
+pub record RefusedAsTold (u : Fair) (h : Packets) : Type 0 where
+  pub opening : (flow weight : ℕ) → refusalIn (openOf u flow weight .answer) ≡ firstOf (openingTold h flow weight)
+  pub offering : (flow length : ℕ) → refusalIn (offerOf u flow length .answer) ≡ firstOf (offeringTold h flow length)
+  pub beginning : refusalIn (beginOf u .answer) ≡ firstOf (beginTold h)
+  pub ending : refusalIn (endOf u .answer) ≡ firstOf (endTold h)

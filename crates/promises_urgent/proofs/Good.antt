@@ -1,0 +1,147 @@
+-- All that the calls keep, in one record, and that each call of the urgent lane keeps it.
+use mathlib.Core.Path.{_≡_, refl, sym, ap, _∙_}
+use mathlib.Core.Bool.{Bool, true, false, cond, _&&_, false≢true}
+use mathlib.Core.List.{List, [], _∷_}
+use Prim.Native.Nat.{ℕ, suc, _+_, _≤_, _<_, zero-le}
+use native.Mathlib.Omega.{arith}
+use lib.Dec.{leb, ltb}
+use lib.ListN.{length, getD, set, getD-replicate}
+use Rattle.units.specs.Limits.{placeCount, slotLimit}
+use Rattle.places.specs.Places.{count}
+use Rattle.places.specs.Choice.{Choice, nothing, at, leastHeld, Leads}
+use Rattle.places.proofs.CountAt.{at-replicate}
+use Rattle.urgent.specs.declared.Cell.{Cell as Place}
+use Rattle.urgent.specs.declared.Flow.{Flow}
+use Rattle.urgent.specs.declared.Urgent.{Urgent}
+use Rattle.urgent.specs.Lane.{freeCell, isHeld, shutFlow, freshLane, flowAt, keyOf, lastIs, waitingOf}
+use Rattle.urgent.specs.Calls.{opened, openOf, accepted, offerOf, chosen, turned, turnOf}
+use Rattle.urgent.proofs.Cases.{open-cases, offer-cases, turn-cases}
+use Rattle.urgent.proofs.Laws.{sends-first}
+use Rattle.promises_urgent.specs.Cells.{Cell, Cells, noCells, openIn, deadlineIn, wasSent, waits, isMissed, noteOpening, noteOffer, noteTurn}
+use Rattle.promises_urgent.specs.Promised.{holds}
+use Rattle.promises_urgent.proofs.Kept.{Kept, Few, kept-open, kept-offer, few-offer, offeredCell, offer-waits, offer-window}
+use Rattle.promises_urgent.proofs.Turned.{without, goneFrom, sentCells, endLane, endCells, kept-sent, kept-end, few-turn, waits-less, this-waits}
+use Rattle.promises_urgent.proofs.Missed.{waiting-not-missed, missed-end, missed-sent}
+use Rattle.promises_urgent.proofs.Account.{none-wait, none-before}
+use Rattle.promises_urgent.proofs.Steps.{none-earlier}
+use Rattle.promises_urgent.proofs.Reason.{Reasons, reasons-none, reasons-offer, reasons-lost, reasons-idle, reasons-sent}
+use Rattle.promises_urgent.proofs.Own.{Sends, sends-none, sends-offer, sends-lost, sends-idle, sends-sent}
+use Rattle.promises_urgent.proofs.Optimal.{Best, best-none, best-offer, best-lost, best-idle, best-sent}
+
+pub record Good (u : Urgent) (h : Cells) : Type 0 where
+  pub kept : Kept u h
+  pub few : Few h
+  pub missed : h .missed ≡ count (isMissed h) (h .accepted)
+  pub best : Best h
+  pub reasons : Reasons h
+  pub sends : Sends h
+
+pub good-fresh : Good freshLane noCells
+unfolding count openIn deadlineIn
+good-fresh =
+    record {
+      kept =
+          record {
+            sixteen = refl;
+            long = refl;
+            time = refl;
+            within = omega arith;
+            openFlows = λ f b. ap (λ (x : Flow). x .opened) (getD-replicate 16 f shutFlow shutFlow b);
+            deadlines = λ f b. ap (λ (x : Flow). x .deadline) (getD-replicate 16 f shutFlow shutFlow b);
+            live = λ f o. absurd (false≢true o);
+            next = λ f b. ap (λ (x : Flow). x .next) (getD-replicate 16 f shutFlow shutFlow b);
+            numbered = tt;
+            tied = λ ask. at-replicate (holds ask) freeCell (λ k. refl) 0 256;
+            gone = λ ask. refl;
+          };
+      few = λ f b. zero-le;
+      missed = refl;
+      best = best-none;
+      reasons = reasons-none;
+      sends = sends-none;
+    }
+
+module _ (u : Urgent) (h : Cells) (g : Good u h) where
+  pub good-open : (flow deadline : ℕ) → Good (openOf u flow deadline .lane) (noteOpening h flow deadline (openOf u flow deadline .answer))
+  good-open flow deadline =
+      open-cases u (λ d. Good (d .lane) (noteOpening h flow deadline (d .answer))) (λ r. g) flow deadline
+      (λ l d. record { kept = kept-open u h (g .kept) flow deadline l d; few = g .few; missed = g .missed; best = record { past = g .best .past; most = g .best .most }; reasons = g .reasons; sends = g .sends })
+
+  pub good-offer : (flow : ℕ) → Good (offerOf u flow .lane) (noteOffer h flow (offerOf u flow .answer))
+  unfolding count
+  good-offer flow =
+      offer-cases u (λ d. Good (d .lane) (noteOffer h flow (d .answer))) (λ r. g) flow
+      (λ l o room. record {
+        kept = kept-offer u h (g .kept) (g .few) flow l o room;
+        few = few-offer u h (g .kept) (g .few) flow l o room;
+        missed = rw (waiting-not-missed h (offeredCell u h flow) (offer-waits u h (g .kept) (g .few) flow l o room)) (omega (arith, g .missed));
+        best =
+            best-offer h (g .best) (offeredCell u h flow) refl (offer-window u h (g .kept) (g .few) flow l o room)
+            (offer-waits u h (g .kept) (g .few) flow l o room);
+        reasons =
+            reasons-offer h (g .reasons) (offeredCell u h flow) refl (offer-window u h (g .kept) (g .few) flow l o room)
+            (offer-waits u h (g .kept) (g .few) flow l o room);
+        sends = sends-offer h (g .sends) (offeredCell u h flow) refl (offer-waits u h (g .kept) (g .few) flow l o room);
+      })
+
+  -- a turn that sends nothing
+  good-idle : u .now .0 < slotLimit → (usable : List ℕ) → Best (endCells h usable (h .missed + count (lastIs (u .now .0)) (u .cells)))
+      → Reasons (endCells h usable (h .missed)) → Sends (endCells h usable (h .missed))
+      → Good (endLane u) (endCells h usable (h .missed + count (lastIs (u .now .0)) (u .cells)))
+  good-idle low usable best reasons sends =
+      let missed = h .missed + count (lastIs (u .now .0)) (u .cells) in
+      record {
+        kept = kept-end u h (g .kept) low usable missed;
+        few = few-turn u h (g .kept) (g .few) (endCells h usable missed) refl refl;
+        missed = omega (arith, g .missed, missed-end u h (g .kept) usable missed);
+        best = best;
+        reasons = reasons;
+        sends = sends;
+      }
+
+  -- a turn that sends the cell at a place
+  module _ (low : u .now .0 < slotLimit) (place : ℕ) (c : Place) (e : leastHeld isHeld keyOf (u .cells) ≡ at place c) where
+    lead : Leads isHeld keyOf freeCell (u .cells) (at place c)
+    lead = rw e at (sends-first u)
+
+    -- no waiting cell has an earlier last slot
+    first : count (λ (a : Cell). ltb (a .last) (c .last .0) && waits h a) (h .accepted) ≡ 0
+    first = none-earlier h place c (none-before u h (g .kept) place c e)
+
+    missed : ℕ
+    missed = h .missed + count (lastIs (u .now .0)) (set (u .cells) place freeCell)
+
+    good-sent : Good (endLane (without u place)) (endCells (sentCells h place c) (h .slot ∷ h .usable) (h .missed + count (lastIs (u .now .0)) (set (u .cells) place freeCell)))
+    unfolding missed
+    good-sent =
+        let k = kept-sent u h (g .kept) place c (lead .0) (lead .1) (lead .2) in
+        let less = waits-less u h (g .kept) place c (lead .0) (lead .1) (lead .2) in
+        record {
+          kept = kept-end (without u place) (sentCells h place c) k low (h .slot ∷ h .usable) missed;
+          few = few-turn u h (g .kept) (g .few) (endCells (sentCells h place c) (h .slot ∷ h .usable) missed) refl refl;
+          missed =
+              omega (
+                arith,
+                g .missed,
+                missed-sent u h (g .kept) place c (lead .0) (lead .1) (lead .2),
+                missed-end (without u place) (sentCells h place c) k (h .slot ∷ h .usable) missed,
+              );
+          best = best-sent h (g .best) missed (goneFrom h place c) (c .last .0) first (λ t. less (λ f n l. leb t l));
+          reasons = reasons-sent h (g .reasons) (g .kept .numbered) place c less first;
+          sends = sends-sent h (g .sends) place c less (this-waits u h (g .kept) place c (lead .0) (lead .1) (lead .2));
+        }
+
+  good-turned : u .now .0 < slotLimit → (usable : Bool) → Good (turned u (chosen u usable) .lane) (noteTurn h usable (turned u (chosen u usable) .answer))
+  good-turned low false = good-idle low (h .usable) (best-lost h (g .best) (h .missed + count (lastIs (u .now .0)) (u .cells)))
+      (reasons-lost h (g .reasons) (g .kept .numbered)) (sends-lost h (g .sends))
+  good-turned low true = go (leastHeld isHeld keyOf (u .cells)) refl
+    where
+      go : (x : Choice Place) → leastHeld isHeld keyOf (u .cells) ≡ x → Good (turned u x .lane) (noteTurn h true (turned u x .answer))
+      go nothing e =
+          good-idle low (h .slot ∷ h .usable)
+          (best-idle h (g .best) (h .missed + count (lastIs (u .now .0)) (u .cells)) (λ t. none-wait u h (g .kept) e (λ f n l. leb t l)))
+          (reasons-idle h (g .reasons) (g .kept .numbered) (none-wait u h (g .kept) e)) (sends-idle h (g .sends))
+      go (at place c) e = good-sent low place c e
+
+  pub good-turn : (usable : Bool) → Good (turnOf u usable .lane) (noteTurn h usable (turnOf u usable .answer))
+  good-turn usable = turn-cases u (λ d. Good (d .lane) (noteTurn h usable (d .answer))) (λ r. g) usable (λ low. good-turned low usable)

@@ -1,0 +1,265 @@
+-- What every call keeps: the lane is what the calls and answers tell. Time, flows and numbers agree; the held places are the
+-- waiting cells; and the cells sent are accepted cells. Here: an opening and an accepted offer keep it.
+use mathlib.Core.Path.{_≡_, refl, sym, ap, _∙_, subst}
+use mathlib.Core.Logic.{_⊎_, inl, inr}
+use mathlib.Core.Bool.{Bool, true, false, not, cond, _&&_, _||_, true≢false, false≢true}
+use mathlib.Core.List.{List, [], _∷_}
+use Prim.Native.Nat.{ℕ, zero, suc, _+_, _-_, _*_, _/_, _%_, _^_, _≤_, _<_, zero-le}
+use native.Mathlib.Decide.{ℕ-discrete}
+use native.Mathlib.Nat.{add-mul-div-right, div-eq-of-lt}
+use native.Mathlib.Omega.{arith}
+use borrow.Author.Tests.{eqb-true, eqb-false, eq-eqb, ne-eqb, le-leb}
+use lib.Dec.{leb, ltb, eqb}
+use lib.ListN.{length, getD, set, drop, length-set}
+use lib.Seq.{getD-set-same, getD-set-other, getD-take, getD-drop}
+use Rattle.units.specs.Limits.{placeCount, slotLimit, badDeadline}
+use Rattle.units.proofs.Limits.{inside}
+use Rattle.places.specs.Places.{bit, count, countAt, firstFree, placesOf}
+use Rattle.places.proofs.Count.{count-le, count-le-length, and-le}
+use Rattle.places.proofs.CountAt.{at-set, own-places}
+use Rattle.places.proofs.Free.{first-is-free, room-left, part-length}
+use Rattle.urgent.specs.declared.Cell.{Cell as Place}
+use Rattle.urgent.specs.declared.Flow.{Flow}
+use Rattle.urgent.specs.declared.Urgent.{Urgent}
+use Rattle.urgent.specs.Lane.{freeCell, isHeld, shutFlow, flowAt, waitingOf}
+use Rattle.urgent.specs.Calls.{opened, accepted, lastSlot}
+use Rattle.promises_urgent.specs.Cells.{Cell, Opening, Gone, Cells, openIn, deadlineIn, wasSent, waits, noteOpening, noteOffer}
+use Rattle.promises_urgent.specs.Promised.{Question, holds, acceptedOf, waitingIn, Numbered}
+use Rattle.promises_urgent.proofs.Numbers.{isCell, is-cell, ofFlow, none-above}
+
+pub record Kept (u : Urgent) (h : Cells) : Type 0 where
+  pub sixteen : length (u .flows) ≡ 16
+  pub long : length (u .cells) ≡ 256
+  pub time : u .now .0 ≡ h .slot
+  pub within : h .slot ≤ slotLimit
+  pub openFlows : (f : ℕ) → f < 16 → flowAt u f .opened ≡ openIn (h .openings) f
+  pub deadlines : (f : ℕ) → f < 16 → flowAt u f .deadline ≡ deadlineIn (h .openings) f
+  pub live : (f : ℕ) → openIn (h .openings) f ≡ true → 1 ≤ deadlineIn (h .openings) f
+  pub next : (f : ℕ) → f < 16 → flowAt u f .next ≡ acceptedOf h f
+  pub numbered : Numbered (h .accepted)
+  pub tied : (ask : Question) → countAt (holds ask) 0 (u .cells) ≡ count (λ (a : Cell). ask (a .flow) (a .number) (a .last) && waits h a) (h .accepted)
+  pub gone : (ask : ℕ → ℕ → Bool)
+      → count (λ (a : Cell). ask (a .flow) (a .number) && wasSent (h .sent) (a .flow) (a .number)) (h .accepted)
+      ≡ count (λ (g : Gone). ask (g .flow) (g .number)) (h .sent)
+
+-- a flow's cells that wait no more left in turns, at most sixteen in each
+abbrev pub Few : Cells → Type 0
+Few h = (f : ℕ) → f < 16 → acceptedOf h f ≤ 16 * h .slot + waitingIn h f
+
+-- the places that a flow holds are its waiting cells
+pub waiting-told : (u : Urgent) (h : Cells) → Kept u h → (flow : ℕ) → flow < 16 → waitingOf u flow ≡ waitingIn h flow
+waiting-told u h k flow l = sym (own-places isHeld 16 flow (u .cells) (omega arith) (omega (arith, k .long))) ∙ k .tied (λ f n last. eqb f flow)
+
+pub waiting-most : (u : Urgent) (h : Cells) → Kept u h → (flow : ℕ) → flow < 16 → waitingIn h flow ≤ 16
+waiting-most u h k flow l =
+    omega (
+      arith,
+      sym (waiting-told u h k flow l),
+      count-le-length isHeld (placesOf 16 flow (u .cells)),
+      part-length isHeld freeCell (u .cells) (flow * 16) 16 (omega (arith, k .long)),
+    )
+
+-- a flow's record after a change of one
+flow-set : (flows : List Flow) (flow : ℕ) (x : Flow) (f : ℕ) → flow < length flows
+    → ((f ≡ flow) × (getD (set flows flow x) f shutFlow ≡ x)) ⊎ ((f ≡ flow → ⊥) × (getD (set flows flow x) f shutFlow ≡ getD flows f shutFlow))
+flow-set flows flow x f l = go (ℕ-discrete f flow)
+  where
+    go : Dec (f ≡ flow) → ((f ≡ flow) × (getD (set flows flow x) f shutFlow ≡ x)) ⊎ ((f ≡ flow → ⊥) × (getD (set flows flow x) f shutFlow ≡ getD flows f shutFlow))
+    go (yes e) = inl (e, rw e (getD-set-same flows flow x shutFlow l))
+    go (no n) = inr (n, getD-set-other flows flow f x shutFlow n)
+
+-- ---- a flow is opened
+module _ (u : Urgent) (h : Cells) (k : Kept u h) (flow deadline : ℕ) (l : flow ≤ 15) (d : badDeadline deadline ≡ false) where
+  now-open : Flow
+  now-open = record { opened = true; deadline = deadline; next = flowAt u flow .next }
+
+  open-flow : (f : ℕ) → f < 16
+      → (getD (set (u .flows) flow now-open) f shutFlow .opened ≡ (eqb flow f || openIn (h .openings) f))
+      × (getD (set (u .flows) flow now-open) f shutFlow .deadline ≡ cond (eqb flow f) deadline (deadlineIn (h .openings) f))
+      × (getD (set (u .flows) flow now-open) f shutFlow .next ≡ flowAt u f .next)
+  unfolding now-open
+  open-flow f b = go (flow-set (u .flows) flow now-open f (omega (arith, k .sixteen)))
+    where
+      go : ((f ≡ flow) × (getD (set (u .flows) flow now-open) f shutFlow ≡ now-open)) ⊎ ((f ≡ flow → ⊥) × (getD (set (u .flows) flow now-open) f shutFlow ≡ getD (u .flows) f shutFlow))
+          → (getD (set (u .flows) flow now-open) f shutFlow .opened ≡ (eqb flow f || openIn (h .openings) f))
+          × (getD (set (u .flows) flow now-open) f shutFlow .deadline ≡ cond (eqb flow f) deadline (deadlineIn (h .openings) f))
+          × (getD (set (u .flows) flow now-open) f shutFlow .next ≡ flowAt u f .next)
+      go (inl e) = rw (e .1, eq-eqb flow f (sym (e .0))) (refl, refl, ap (λ (n : ℕ). flowAt u n .next) (sym (e .0)))
+      go (inr e) = rw (e .1, ne-eqb flow f (λ q. e .0 (sym q))) (k .openFlows f b, k .deadlines f b, refl)
+
+  pub kept-open : Kept (opened u flow deadline .lane) (noteOpening h flow deadline (opened u flow deadline .answer))
+  unfolding openIn deadlineIn now-open
+  kept-open =
+      record {
+        sixteen = length-set (u .flows) flow now-open ∙ k .sixteen;
+        long = k .long;
+        time = k .time;
+        within = k .within;
+        openFlows = λ f b. open-flow f b .0;
+        deadlines = λ f b. open-flow f b .1;
+        live = λ f. live f (eqb flow f) (k .live f);
+        next = λ f b. open-flow f b .2 ∙ k .next f b;
+        numbered = k .numbered;
+        tied = k .tied;
+        gone = k .gone;
+      }
+    where
+      live : (f : ℕ) (t : Bool) → (openIn (h .openings) f ≡ true → 1 ≤ deadlineIn (h .openings) f)
+          → (t || openIn (h .openings) f) ≡ true → 1 ≤ cond t deadline (deadlineIn (h .openings) f)
+      live f true r o = inside deadline 4096 d .0
+      live f false r o = r o
+
+-- ---- a cell is accepted
+-- as the history has it
+abbrev pub offeredCell : Urgent → Cells → ℕ → Cell
+offeredCell u h flow =
+    record { flow = flow; number = flowAt u flow .next; last = lastSlot u flow; arrival = h .slot; deadline = deadlineIn (h .openings) flow }
+
+module _ (u : Urgent) (h : Cells) (k : Kept u h) (few : Few h) (flow : ℕ) (l : flow ≤ 15) (o : flowAt u flow .opened ≡ true) (room : waitingOf u flow < 16) where
+  own : List Place
+  own = placesOf placeCount flow (u .cells)
+
+  own-long : length own ≡ 16
+  unfolding own
+  own-long = part-length isHeld freeCell (u .cells) (flow * 16) 16 (omega (arith, k .long))
+
+  free : ℕ
+  free = firstFree isHeld own
+
+  free-low : free < 16
+  unfolding free own
+  free-low = omega (arith, own-long, room-left isHeld own (omega (arith, own-long)))
+
+  place : ℕ
+  place = flow * 16 + free
+
+  place-free : getD (u .cells) place freeCell .held ≡ false
+  unfolding place free own
+  place-free =
+      let f : getD own free freeCell .held ≡ false = first-is-free isHeld own freeCell (omega (arith, own-long, free-low)) in
+      rw (getD-take 16 (drop (flow * 16) (u .cells)) free freeCell free-low, getD-drop (flow * 16) (u .cells) free freeCell) at f
+
+  place-flow : place / 16 ≡ flow
+  unfolding place
+  place-flow = omega (arith, free-low)
+
+  place-low : place < length (u .cells)
+  unfolding place
+  place-low = omega (arith, free-low, k .long)
+
+  number : ℕ
+  number = flowAt u flow .next
+
+  last : ℕ
+  last = lastSlot u flow
+
+  is-open : openIn (h .openings) flow ≡ true
+  is-open = sym (k .openFlows flow (omega arith)) ∙ o
+
+  -- the number is new, so it was not sent
+  unsent : (gs : List Gone) → count (λ (g : Gone). eqb (g .flow) flow && eqb (g .number) number) gs ≡ 0 → wasSent gs flow number ≡ false
+  unfolding count wasSent
+  unsent [] z = refl
+  unsent (g ∷ gs) z = go (eqb (g .flow) flow && eqb (g .number) number) z (unsent gs)
+    where
+      go : (t : Bool) → bit t + count (λ (g : Gone). eqb (g .flow) flow && eqb (g .number) number) gs ≡ 0
+          → (count (λ (g : Gone). eqb (g .flow) flow && eqb (g .number) number) gs ≡ 0 → wasSent gs flow number ≡ false)
+          → (t || wasSent gs flow number) ≡ false
+      go true y r = absurd (omega arith)
+      go false y r = r (omega arith)
+
+  new-unsent : wasSent (h .sent) flow number ≡ false
+  unfolding number
+  new-unsent =
+      unsent (h .sent)
+      (omega (
+        arith,
+        k .gone (λ f n. eqb f flow && eqb n number),
+        count-le (λ (a : Cell). (eqb (a .flow) flow && eqb (a .number) number) && wasSent (h .sent) (a .flow) (a .number)) (isCell flow number)
+            (λ a. and-le (eqb (a .flow) flow && eqb (a .number) number) (wasSent (h .sent) (a .flow) (a .number))) (h .accepted),
+        none-above flow number (h .accepted) (k .numbered) (omega (arith, k .next flow (omega arith))),
+      ))
+
+  in-window : leb (h .slot) last ≡ true
+  unfolding last
+  in-window = le-leb (h .slot) last (omega (arith, k .time, k .deadlines flow (omega arith), k .live flow is-open))
+
+  new-place : Place
+  new-place = record { held = true; number = number; last = record { 0 = last } }
+
+  set-in : (ask : Question) → countAt (holds ask) 0 (set (u .cells) place new-place) ≡ bit (ask flow number last) + countAt (holds ask) 0 (u .cells)
+  unfolding new-place
+  set-in ask =
+      let z : 0 + place ≡ place = omega arith in
+      let s = at-set (holds ask) 0 (u .cells) place new-place freeCell place-low in
+      let t : bit (holds ask (0 + place) (getD (u .cells) place freeCell)) ≡ 0 = rw place-free in
+      let v : bit (holds ask (0 + place) new-place) ≡ bit (ask flow number last) = rw (z, place-flow) in
+      omega (arith, s, t, v)
+
+  new-cell : Cell
+  new-cell = record { flow = flow; number = number; last = last; arrival = h .slot; deadline = deadlineIn (h .openings) flow }
+
+  new-waits : waits h new-cell ≡ true
+  unfolding new-cell
+  new-waits = rw (new-unsent, in-window)
+
+  and-true : (t s : Bool) → s ≡ true → bit (t && s) ≡ bit t
+  and-true true true e = refl
+  and-true true false e = absurd (false≢true e)
+  and-true false s e = refl
+
+  and-false : (t s : Bool) → s ≡ false → bit (t && s) ≡ 0
+  and-false true true e = absurd (true≢false e)
+  and-false true false e = refl
+  and-false false s e = refl
+
+  fits : (number + 1) % 2 ^ 64 ≡ number + 1
+  unfolding number
+  fits = omega (arith, k .next flow (omega arith), few flow (omega arith), k .within, sym (waiting-told u h k flow (omega arith)))
+
+  after-offer : Flow
+  after-offer = record { opened = true; deadline = flowAt u flow .deadline; next = (number + 1) % 2 ^ 64 }
+
+  offer-flow : (f : ℕ) → f < 16
+      → (getD (set (u .flows) flow after-offer) f shutFlow .opened ≡ openIn (h .openings) f)
+      × (getD (set (u .flows) flow after-offer) f shutFlow .deadline ≡ deadlineIn (h .openings) f)
+      × (getD (set (u .flows) flow after-offer) f shutFlow .next ≡ bit (eqb flow f) + acceptedOf h f)
+  unfolding after-offer number
+  offer-flow f b = go (flow-set (u .flows) flow after-offer f (omega (arith, k .sixteen)))
+    where
+      go : ((f ≡ flow) × (getD (set (u .flows) flow after-offer) f shutFlow ≡ after-offer)) ⊎ ((f ≡ flow → ⊥) × (getD (set (u .flows) flow after-offer) f shutFlow ≡ getD (u .flows) f shutFlow))
+          → (getD (set (u .flows) flow after-offer) f shutFlow .opened ≡ openIn (h .openings) f)
+          × (getD (set (u .flows) flow after-offer) f shutFlow .deadline ≡ deadlineIn (h .openings) f)
+          × (getD (set (u .flows) flow after-offer) f shutFlow .next ≡ bit (eqb flow f) + acceptedOf h f)
+      go (inl e) =
+          rw (e .1, eq-eqb flow f (sym (e .0)), e .0) (sym is-open, k .deadlines flow (omega arith), fits ∙ omega (arith, k .next flow (omega arith)))
+      go (inr e) = rw (e .1, ne-eqb flow f (λ q. e .0 (sym q))) (k .openFlows f b, k .deadlines f b, omega (arith, k .next f b))
+
+  pub kept-offer : Kept (accepted u flow .lane) (noteOffer h flow (accepted u flow .answer))
+  unfolding count number last place free own new-place new-cell after-offer
+  kept-offer =
+      record {
+        sixteen = length-set (u .flows) flow after-offer ∙ k .sixteen;
+        long = length-set (u .cells) place new-place ∙ k .long;
+        time = k .time;
+        within = k .within;
+        openFlows = λ f b. offer-flow f b .0;
+        deadlines = λ f b. offer-flow f b .1;
+        live = k .live;
+        next = λ f b. offer-flow f b .2;
+        numbered = (k .next flow (omega arith), omega (arith, k .time, k .deadlines flow (omega arith)), k .live flow is-open, k .numbered);
+        tied = λ ask. omega (arith, set-in ask, k .tied ask, and-true (ask flow number last) (waits h new-cell) new-waits);
+        gone = λ ask. omega (arith, k .gone ask, and-false (ask flow number) (wasSent (h .sent) flow number) new-unsent);
+      }
+
+  pub few-offer : Few (noteOffer h flow (accepted u flow .answer))
+  unfolding count number last new-cell
+  few-offer f b = omega (arith, few f b, and-true (eqb flow f) (waits h new-cell) new-waits)
+
+  -- the accepted cell waits, in the window that the rules give it
+  pub offer-waits : waits h (offeredCell u h flow) ≡ true
+  unfolding new-cell number last
+  offer-waits = new-waits
+
+  pub offer-window : lastSlot u flow ≡ h .slot + deadlineIn (h .openings) flow - 1
+  offer-window = omega (arith, k .time, k .deadlines flow (omega arith))

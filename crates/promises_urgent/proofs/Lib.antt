@@ -1,0 +1,12 @@
+pub mod Numbers
+pub mod Kept
+pub mod Turned
+pub mod Missed
+pub mod Account
+pub mod Steps
+pub mod Reason
+pub mod Own
+pub mod Uses
+pub mod Counted
+pub mod Optimal
+pub mod Good

@@ -1,0 +1,4 @@
+pub mod Plans
+pub mod Cells
+pub mod Promised
+pub mod Refused

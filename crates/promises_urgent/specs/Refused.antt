@@ -1,0 +1,36 @@
+-- S4 in the urgent lane: what a call is refused for, read off the calls and answers so far and not off the lane.
+use mathlib.Core.Path.{_≡_}
+use mathlib.Core.Bool.{Bool, not}
+use mathlib.Core.List.{List, [], _∷_}
+use Prim.Native.Nat.{ℕ, _+_}
+use lib.Dec.{leb, ltb}
+use Rattle.units.specs.Limits.{placeCount, slotLimit, noSuchFlow, badDeadline}
+use Rattle.units.specs.Refusals.{Ground, firstOf}
+use Rattle.units.specs.declared.Refusal.the-variants.{NoSuchFlow, NotOpen, AlreadyOpen, BeyondLimit, PlacesFull, SlotsUsedUp}
+use Rattle.urgent.specs.declared.Urgent.{Urgent}
+use Rattle.urgent.specs.Answers.{refusalIn}
+use Rattle.urgent.specs.Calls.{openOf, offerOf, turnOf}
+use Rattle.promises_urgent.specs.Cells.{Cells, openIn, deadlineIn}
+use Rattle.promises_urgent.specs.Promised.{waitingIn}
+
+-- open: an opening of the flow was answered ok; waiting: accepted, not sent, last slot not gone by; the slot: the turns so far
+abbrev pub openingTold : Cells → ℕ → ℕ → List Ground
+openingTold h flow deadline =
+    (NoSuchFlow, noSuchFlow flow) ∷ (AlreadyOpen, openIn (h .openings) flow) ∷ (BeyondLimit, badDeadline deadline) ∷ []
+
+abbrev pub offeringTold : Cells → ℕ → List Ground
+offeringTold h flow =
+    (NoSuchFlow, noSuchFlow flow)
+    ∷ (NotOpen, not (openIn (h .openings) flow))
+    ∷ (PlacesFull, leb placeCount (waitingIn h flow))
+    ∷ (SlotsUsedUp, ltb slotLimit (h .slot + deadlineIn (h .openings) flow))
+    ∷ []
+
+abbrev pub turnTold : Cells → List Ground
+turnTold h = (SlotsUsedUp, leb slotLimit (h .slot)) ∷ []
+
+-- S4: each call is refused exactly as the calls and answers so far tell.
+pub record RefusedAsTold (u : Urgent) (h : Cells) : Type 0 where
+  pub opening : (flow deadline : ℕ) → refusalIn (openOf u flow deadline .answer) ≡ firstOf (openingTold h flow deadline)
+  pub offering : (flow : ℕ) → refusalIn (offerOf u flow .answer) ≡ firstOf (offeringTold h flow)
+  pub turning : (usable : Bool) → refusalIn (turnOf u usable .answer) ≡ firstOf (turnTold h)

@@ -1,0 +1,178 @@
+// The station: an urgent lane and a fair lane in one state, which every call takes by value and hands back beside the reply.
+ghost use mathlib.Core.Path.{_≡_};
+ghost use mathlib.Core.Bool.{true, false};
+ghost use Rattle.urgent.specs.Calls.{turnOf};
+ghost use Rattle.urgent.specs.Calls.{openOf as urgentOpenOf};
+ghost use Rattle.urgent.specs.Calls.{offerOf as urgentOfferOf};
+ghost use Rattle.fair.specs.Calls.{beginOf, endOf};
+ghost use Rattle.fair.specs.Calls.{openOf as fairOpenOf};
+ghost use Rattle.fair.specs.Calls.{offerOf as fairOfferOf};
+ghost use Rattle.station.specs.Calls.{freshStation, byUrgent, byFair, callOf};
+use fair::Fair;
+use urgent::Urgent;
+
+// Both lanes. They share nothing.
+pub struct Station {
+    pub urgent: Urgent,
+    pub fair: Fair,
+}
+
+// Every call that a station answers.
+pub enum Call {
+    // Opens a flow of the urgent lane: the flow and its deadline.
+    OpenUrgent(u64, u64),
+    // Opens a flow of the fair lane: the flow and its weight.
+    OpenFair(u64, u64),
+    // Offers a cell: the flow.
+    OfferCell(u64),
+    // Offers a packet: the flow and the length.
+    OfferPacket(u64, u64),
+    OpenTurn,
+    LostTurn,
+    Begin,
+    End,
+}
+
+// What a call is answered, by the lane that it went to.
+pub enum Reply {
+    Urgent(urgent::Answer),
+    Fair(fair::Answer),
+}
+
+// The station after a call, and the reply.
+pub struct Called {
+    pub station: Station,
+    pub reply: Reply,
+}
+
+impl Station {
+    // The station before any call.
+    pub fn fresh() -> Station
+        ensures { λ r. ⌜ r ≡ freshStation ⌝ }
+    {
+        let urgent = Urgent::fresh();
+        let fair = Fair::fresh();
+        Station { urgent, fair }
+    }
+
+    // Opens a flow of the urgent lane with a deadline.
+    pub fn open_urgent(mut self, flow: u64, deadline: u64) -> Called
+        ensures { λ r. ⌜ r ≡ byUrgent self (urgentOpenOf (self .urgent) flow deadline) ⌝ }
+    {
+        let lane = self.urgent;
+        let done = lane.open(flow, deadline);
+        let after = done.lane;
+        let answer = done.answer;
+        self.urgent = after;
+        Called {
+            station: self,
+            reply: Reply::Urgent(answer),
+        }
+    }
+
+    // Opens a flow of the fair lane with a weight.
+    pub fn open_fair(mut self, flow: u64, weight: u64) -> Called
+        ensures { λ r. ⌜ r ≡ byFair self (fairOpenOf (self .fair) flow weight) ⌝ }
+    {
+        let lane = self.fair;
+        let done = lane.open(flow, weight);
+        let after = done.lane;
+        let answer = done.answer;
+        self.fair = after;
+        Called {
+            station: self,
+            reply: Reply::Fair(answer),
+        }
+    }
+
+    // Offers a cell of a flow to the urgent lane.
+    pub fn offer_cell(mut self, flow: u64) -> Called
+        ensures { λ r. ⌜ r ≡ byUrgent self (urgentOfferOf (self .urgent) flow) ⌝ }
+    {
+        let lane = self.urgent;
+        let done = lane.offer(flow);
+        let after = done.lane;
+        let answer = done.answer;
+        self.urgent = after;
+        Called {
+            station: self,
+            reply: Reply::Urgent(answer),
+        }
+    }
+
+    // Offers a packet of a flow to the fair lane.
+    pub fn offer_packet(mut self, flow: u64, length: u64) -> Called
+        ensures { λ r. ⌜ r ≡ byFair self (fairOfferOf (self .fair) flow length) ⌝ }
+    {
+        let lane = self.fair;
+        let done = lane.offer(flow, length);
+        let after = done.lane;
+        let answer = done.answer;
+        self.fair = after;
+        Called {
+            station: self,
+            reply: Reply::Fair(answer),
+        }
+    }
+
+    // A turn of the radio, open or lost.
+    pub fn turn(mut self, usable: bool) -> Called
+        ensures { λ r. ⌜ r ≡ byUrgent self (turnOf (self .urgent) usable) ⌝ }
+    {
+        let lane = self.urgent;
+        let done = lane.turn(usable);
+        let after = done.lane;
+        let answer = done.answer;
+        self.urgent = after;
+        Called {
+            station: self,
+            reply: Reply::Urgent(answer),
+        }
+    }
+
+    // Takes a waiting packet into service.
+    pub fn begin(mut self) -> Called
+        ensures { λ r. ⌜ r ≡ byFair self (beginOf (self .fair)) ⌝ }
+    {
+        let lane = self.fair;
+        let done = lane.begin();
+        let after = done.lane;
+        let answer = done.answer;
+        self.fair = after;
+        Called {
+            station: self,
+            reply: Reply::Fair(answer),
+        }
+    }
+
+    // Ends the packet in service.
+    pub fn end(mut self) -> Called
+        ensures { λ r. ⌜ r ≡ byFair self (endOf (self .fair)) ⌝ }
+    {
+        let lane = self.fair;
+        let done = lane.end();
+        let after = done.lane;
+        let answer = done.answer;
+        self.fair = after;
+        Called {
+            station: self,
+            reply: Reply::Fair(answer),
+        }
+    }
+
+    // Answers any call.
+    pub fn call(self, call: Call) -> Called
+        ensures { λ r. ⌜ r ≡ callOf self call ⌝ }
+    {
+        match call {
+            Call::OpenUrgent(flow, deadline) => self.open_urgent(flow, deadline),
+            Call::OpenFair(flow, weight) => self.open_fair(flow, weight),
+            Call::OfferCell(flow) => self.offer_cell(flow),
+            Call::OfferPacket(flow, length) => self.offer_packet(flow, length),
+            Call::OpenTurn => self.turn(true),
+            Call::LostTurn => self.turn(false),
+            Call::Begin => self.begin(),
+            Call::End => self.end(),
+        }
+    }
+}
