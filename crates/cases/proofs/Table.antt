@@ -1,11 +1,17 @@
 -- The table's one proof: the definitions compute.
 use mathlib.Core.Path.{refl}
+use Rattle.units.specs.Refusals.{firstOf}
 use Rattle.places.specs.Places.{count, firstFree}
 use Rattle.places.specs.Choice.{comesBefore, better, least}
-use Rattle.units.specs.Refusals.{firstOf}
-use Rattle.urgent.specs.Calls.{openOf, offerOf, turnOf}
-use Rattle.cases.specs.Table.{urgent, Cases}
+use Rattle.urgent.specs.Calls.{turnOf}
+use Rattle.urgent.specs.Calls.{openOf as openUrgentOf}
+use Rattle.urgent.specs.Calls.{offerOf as offerCellOf}
+use Rattle.fair.specs.Calls.{openOf, offerOf, beginOf, endOf}
+use Rattle.admission.specs.Demand.{demandOf, failsFrom}
+use Rattle.admission.specs.Verdicts.{firstBad}
+use Rattle.station.specs.Calls.{callOf}
+use Rattle.cases.specs.Table.{replies, Cases}
 
 pub cases : Cases
-unfolding urgent openOf offerOf turnOf firstOf count firstFree comesBefore better least
+unfolding replies callOf openUrgentOf offerCellOf turnOf openOf offerOf beginOf endOf firstOf count firstFree comesBefore better least failsFrom demandOf firstBad
 cases = refl

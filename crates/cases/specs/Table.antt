@@ -1,49 +1,77 @@
 -- The starred cases of the tender's "Numbers to check by hand": what the definitions give, and what the tender says.
 use mathlib.Core.Path.{_≡_}
-use mathlib.Core.Bool.{true, false}
 use mathlib.Core.List.{List, [], _∷_, map}
 use Prim.Native.Nat.{ℕ, _+_, _-_, _*_, _%_}
 use Rattle.units.specs.Answers.{Told, refusal, values}
 use Rattle.units.specs.Charges.{chargeOf}
 use Rattle.units.specs.declared.Refusal.the-variants.{SlotsUsedUp}
-use Rattle.urgent.specs.declared.Urgent.{Urgent}
-use Rattle.urgent.specs.declared.Done.{Done}
-use Rattle.urgent.specs.Lane.{freshLane}
-use Rattle.urgent.specs.Calls.{openOf, offerOf, turnOf}
-use Rattle.urgent.specs.Answers.{told}
+use Rattle.admission.specs.Verdicts.{admitOf}
+use Rattle.admission.specs.Answers.{told as verdictTold}
+use Rattle.admission.specs.declared.Declaration.{Declaration}
+use Rattle.station.specs.declared.Station.{Station}
+use Rattle.station.specs.declared.Call.{Call}
+use Rattle.station.specs.declared.Call.the-variants.{OpenUrgent, OpenFair, OfferCell, OfferPacket, OpenTurn, LostTurn, Begin, End}
+use Rattle.station.specs.Calls.{freshStation, callOf}
+use Rattle.station.specs.Answers.{told}
 
 -- a case: what is answered, and what should be
 pub record Case : Type 0 where
   pub answered : List Told
   pub expected : List Told
 
--- the answers to calls of the urgent lane, one after the other
-unfoldable pub urgent : Urgent → List (Urgent → Done) → List Told
-urgent u [] = []
-urgent u (call ∷ calls) = told (call u .answer) ∷ urgent (call u .lane) calls
+-- the replies to calls, one after the other
+unfoldable pub replies : Station → List Call → List Told
+replies s [] = []
+replies s (call ∷ calls) = told (callOf s call .reply) ∷ replies (callOf s call .station) calls
 
--- the fresh lane, but at slot n
-abbrev pub freshAt : ℕ → Urgent
-freshAt n = record { now = record { 0 = n }; flows = freshLane .flows; cells = freshLane .cells }
-
-abbrev pub open′ : ℕ → ℕ → Urgent → Done
-open′ flow deadline u = openOf u flow deadline
-
-abbrev pub offer : ℕ → Urgent → Done
-offer flow u = offerOf u flow
-
-abbrev pub turn : Urgent → Done
-turn u = turnOf u true
-
-abbrev pub lost : Urgent → Done
-lost u = turnOf u false
+-- the fresh station, but at slot n
+abbrev pub freshAt : ℕ → Station
+freshAt n =
+    record {
+      urgent = record { now = record { 0 = n }; flows = freshStation .urgent .flows; cells = freshStation .urgent .cells };
+      fair = freshStation .fair;
+    }
 
 -- slots passed between two counts of the radio, as the function's contract has it
 abbrev pub passed : ℕ → ℕ → ℕ
 passed earlier later = (later + 65536 - earlier) % 65536
 
-abbrev pub opened : Told
-opened = values []
+abbrev pub declared : ℕ → ℕ → ℕ → Declaration
+declared burst period deadline = record { burst = burst; period = period; deadline = deadline }
+
+abbrev pub ok : Told
+ok = values []
+
+-- 100 bytes on flow 0 of weight 1, then 100 and 100 on flow 1 of weight 2, and all of them served
+abbrev pub callsA : List Call → List Call
+callsA more =
+    OpenFair 0 1 ∷ OpenFair 1 2 ∷ OfferPacket 0 100 ∷ OfferPacket 1 100 ∷ OfferPacket 1 100 ∷ Begin ∷ End ∷ Begin ∷ End ∷ Begin ∷ End ∷ more
+
+abbrev pub repliesA : List Told → List Told
+repliesA more =
+    ok
+    ∷ ok
+    ∷ values (0 ∷ 0 ∷ 72072000 ∷ [])
+    ∷ values (0 ∷ 0 ∷ 36036000 ∷ [])
+    ∷ values (1 ∷ 36036000 ∷ 72072000 ∷ [])
+    ∷ values (0 ∷ 0 ∷ 100 ∷ 0 ∷ [])
+    ∷ values (0 ∷ 0 ∷ 100 ∷ [])
+    ∷ values (1 ∷ 0 ∷ 100 ∷ 0 ∷ [])
+    ∷ values (1 ∷ 0 ∷ 100 ∷ [])
+    ∷ values (1 ∷ 1 ∷ 100 ∷ 36036000 ∷ [])
+    ∷ values (1 ∷ 1 ∷ 100 ∷ [])
+    ∷ more
+
+abbrev pub A : Case
+A = record { answered = replies freshStation (callsA []); expected = repliesA [] }
+
+-- after A has drained, flow 2 is opened with weight 1 and offers 1 byte
+abbrev pub B : Case
+B =
+    record {
+      answered = replies freshStation (callsA (OpenFair 2 1 ∷ OfferPacket 2 1 ∷ []));
+      expected = repliesA (ok ∷ values (0 ∷ 72072000 ∷ 72792720 ∷ []) ∷ []);
+    }
 
 abbrev pub C : Case
 C = record { answered = values (1500 * chargeOf 1 ∷ 1500 * chargeOf 16 ∷ []) ∷ []; expected = values (1081080000 ∷ 67567500 ∷ []) ∷ [] }
@@ -51,24 +79,23 @@ C = record { answered = values (1500 * chargeOf 1 ∷ 1500 * chargeOf 16 ∷ [])
 abbrev pub D : Case
 D =
     record {
-      answered = urgent freshLane (open′ 0 3 ∷ open′ 1 1 ∷ offer 0 ∷ offer 1 ∷ turn ∷ turn ∷ []);
-      expected =
-          opened ∷ opened ∷ values (0 ∷ 2 ∷ []) ∷ values (0 ∷ 0 ∷ []) ∷ values (1 ∷ 0 ∷ 0 ∷ []) ∷ values (0 ∷ 0 ∷ 0 ∷ []) ∷ [];
+      answered = replies freshStation (OpenUrgent 0 3 ∷ OpenUrgent 1 1 ∷ OfferCell 0 ∷ OfferCell 1 ∷ OpenTurn ∷ OpenTurn ∷ []);
+      expected = ok ∷ ok ∷ values (0 ∷ 2 ∷ []) ∷ values (0 ∷ 0 ∷ []) ∷ values (1 ∷ 0 ∷ 0 ∷ []) ∷ values (0 ∷ 0 ∷ 0 ∷ []) ∷ [];
     }
 
 abbrev pub E : Case
 E =
     record {
-      answered = urgent freshLane (open′ 0 1 ∷ offer 0 ∷ lost ∷ []);
-      expected = opened ∷ values (0 ∷ 0 ∷ []) ∷ values (1 ∷ []) ∷ [];
+      answered = replies freshStation (OpenUrgent 0 1 ∷ OfferCell 0 ∷ LostTurn ∷ []);
+      expected = ok ∷ values (0 ∷ 0 ∷ []) ∷ values (1 ∷ []) ∷ [];
     }
 
 abbrev pub F : Case
 F =
     record {
-      answered = urgent freshLane (open′ 0 2 ∷ offer 0 ∷ offer 0 ∷ offer 0 ∷ turn ∷ turn ∷ []);
+      answered = replies freshStation (OpenUrgent 0 2 ∷ OfferCell 0 ∷ OfferCell 0 ∷ OfferCell 0 ∷ OpenTurn ∷ OpenTurn ∷ []);
       expected =
-          opened
+          ok
           ∷ values (0 ∷ 1 ∷ [])
           ∷ values (1 ∷ 1 ∷ [])
           ∷ values (2 ∷ 1 ∷ [])
@@ -80,16 +107,25 @@ F =
 abbrev pub H : Case
 H =
     record {
-      answered = urgent (freshAt 3999999999) (open′ 0 1 ∷ open′ 1 2 ∷ offer 0 ∷ offer 1 ∷ []);
-      expected = opened ∷ opened ∷ values (0 ∷ 3999999999 ∷ []) ∷ refusal SlotsUsedUp ∷ [];
+      answered = replies (freshAt 3999999999) (OpenUrgent 0 1 ∷ OpenUrgent 1 2 ∷ OfferCell 0 ∷ OfferCell 1 ∷ []);
+      expected = ok ∷ ok ∷ values (0 ∷ 3999999999 ∷ []) ∷ refusal SlotsUsedUp ∷ [];
     }
 
 abbrev pub I : Case
 I = record { answered = values (passed 65530 4 ∷ passed 5 4 ∷ []) ∷ []; expected = values (10 ∷ 65535 ∷ []) ∷ [] }
 
+abbrev pub J : Case
+J = record { answered = verdictTold (admitOf (declared 1 2 1 ∷ declared 1 2 2 ∷ [])) ∷ []; expected = ok ∷ [] }
+
+abbrev pub K : Case
+K = record { answered = verdictTold (admitOf (declared 1 2 1 ∷ declared 1 2 1 ∷ [])) ∷ []; expected = values (1 ∷ []) ∷ [] }
+
+abbrev pub L : Case
+L = record { answered = verdictTold (admitOf (declared 3 2 2 ∷ [])) ∷ []; expected = values (2 ∷ []) ∷ [] }
+
 -- the table
 abbrev pub table : List Case
-table = C ∷ D ∷ E ∷ F ∷ H ∷ I ∷ []
+table = A ∷ B ∷ C ∷ D ∷ E ∷ F ∷ H ∷ I ∷ J ∷ K ∷ L ∷ []
 
 -- Each case is answered as the tender says.
 abbrev pub Cases : Type 0

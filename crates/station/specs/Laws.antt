@@ -1,20 +1,18 @@
 -- What holds of every call in every state.
 use mathlib.Core.Path.{_≡_}
+use mathlib.Core.Bool.{Bool, true, false}
 use mathlib.Core.List.{List}
-use mathlib.Core.Option.{Option, none, some}
+use mathlib.Core.Option.{some}
 use Rattle.units.specs.Refusals.{Ground, firstOf}
 use Rattle.units.specs.declared.Refusal.{Refusal}
 use Rattle.urgent.specs.Lane.{openingGrounds as urgentOpening, offeringGrounds as cellOffering, turnGrounds}
-use Rattle.urgent.specs.declared.Answer.{Answer as UrgentAnswer}
-use Rattle.fair.specs.declared.Answer.{Answer as FairAnswer}
 use Rattle.fair.specs.Lane.{flowAt, waitingOf, startOf, beginGrounds, endGrounds}
 use Rattle.tags.specs.Grounds.{openingGrounds as fairOpening, offeringGrounds as packetOffering}
 use Rattle.station.specs.declared.Station.{Station}
-use Rattle.station.specs.declared.Reply.{Reply}
-use Rattle.station.specs.declared.Reply.the-variants.{Urgent, Fair}
 use Rattle.station.specs.declared.Call.{Call}
 use Rattle.station.specs.declared.Call.the-variants.{OpenUrgent, OpenFair, OfferCell, OfferPacket, OpenTurn, LostTurn, Begin, End}
 use Rattle.station.specs.Calls.{callOf}
+use Rattle.station.specs.Answers.{refusalIn}
 
 -- what a call may be refused for, in the order in which the refusals are given
 abbrev pub groundsOf : Station → Call → List Ground
@@ -26,3 +24,34 @@ groundsOf s OpenTurn = turnGrounds (s .urgent)
 groundsOf s LostTurn = turnGrounds (s .urgent)
 groundsOf s Begin = beginGrounds (s .fair)
 groundsOf s End = endGrounds (s .fair)
+
+-- A call is refused exactly for the first of its grounds that holds.
+abbrev pub RefusedFirst : Type 0
+RefusedFirst = (s : Station) (call : Call) → refusalIn (callOf s call .reply) ≡ firstOf (groundsOf s call)
+
+-- A refused call leaves the station as it was.
+abbrev pub RefusedSame : Type 0
+RefusedSame = (s : Station) (call : Call) (r : Refusal) → refusalIn (callOf s call .reply) ≡ some r → callOf s call .station ≡ s
+
+-- a call of the urgent lane
+abbrev pub isUrgent : Call → Bool
+isUrgent (OpenUrgent flow deadline) = true
+isUrgent (OpenFair flow weight) = false
+isUrgent (OfferCell flow) = true
+isUrgent (OfferPacket flow length) = false
+isUrgent OpenTurn = true
+isUrgent LostTurn = true
+isUrgent Begin = false
+isUrgent End = false
+
+-- The lanes share nothing: a call of one lane leaves the other as it was, and its reply and what becomes of its own lane are the
+-- same whatever the other lane is.
+pub record LanesApart : Type 0 where
+  pub urgentCall : (s : Station) (call : Call) → isUrgent call ≡ true → callOf s call .station .fair ≡ s .fair
+  pub fairCall : (s : Station) (call : Call) → isUrgent call ≡ false → callOf s call .station .urgent ≡ s .urgent
+  pub urgentAlone :
+      (s t : Station) (call : Call) → isUrgent call ≡ true → s .urgent ≡ t .urgent
+      → (callOf s call .reply ≡ callOf t call .reply) × (callOf s call .station .urgent ≡ callOf t call .station .urgent)
+  pub fairAlone :
+      (s t : Station) (call : Call) → isUrgent call ≡ false → s .fair ≡ t .fair
+      → (callOf s call .reply ≡ callOf t call .reply) × (callOf s call .station .fair ≡ callOf t call .station .fair)
