@@ -1,9 +1,10 @@
 -- The starred cases of the tender's "Numbers to check by hand": what the definitions give, and what the tender says.
 use mathlib.Core.Path.{_≡_}
 use mathlib.Core.List.{List, [], _∷_, map}
-use Prim.Native.Nat.{ℕ, _+_, _-_, _*_, _%_}
+use Prim.Native.Nat.{ℕ, _*_}
 use Rattle.units.specs.Answers.{Told, refusal, values}
 use Rattle.units.specs.Charges.{chargeOf}
+use Rattle.units.specs.Radio.{slotsPassed}
 use Rattle.units.specs.declared.Refusal.the-variants.{SlotsUsedUp}
 use Rattle.admission.specs.Verdicts.{admitOf}
 use Rattle.admission.specs.Answers.{told as verdictTold}
@@ -31,10 +32,6 @@ freshAt n =
       urgent = record { now = record { 0 = n }; flows = freshStation .urgent .flows; cells = freshStation .urgent .cells };
       fair = freshStation .fair;
     }
-
--- slots passed between two counts of the radio, as the function's contract has it
-abbrev pub passed : ℕ → ℕ → ℕ
-passed earlier later = (later + 65536 - earlier) % 65536
 
 abbrev pub declared : ℕ → ℕ → ℕ → Declaration
 declared burst period deadline = record { burst = burst; period = period; deadline = deadline }
@@ -112,7 +109,7 @@ H =
     }
 
 abbrev pub I : Case
-I = record { answered = values (passed 65530 4 ∷ passed 5 4 ∷ []) ∷ []; expected = values (10 ∷ 65535 ∷ []) ∷ [] }
+I = record { answered = values (slotsPassed 65530 4 ∷ slotsPassed 5 4 ∷ []) ∷ []; expected = values (10 ∷ 65535 ∷ []) ∷ [] }
 
 abbrev pub J : Case
 J = record { answered = verdictTold (admitOf (declared 1 2 1 ∷ declared 1 2 2 ∷ [])) ∷ []; expected = ok ∷ [] }

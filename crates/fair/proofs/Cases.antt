@@ -41,8 +41,8 @@ module _ (u : Fair) (P : Done → Type 0) (no : (r : Refusal) → P (refused u r
       go : (a : Bool) → ltb 15 flow ≡ a → (b : Bool) → flowAt u flow .opened ≡ b → (c : Bool) → badLength length ≡ c → (d : Bool) → leb 16 (waitingOf u flow) ≡ d
           → (e : Bool) → ltb tagLimit (finishAt (startOf u flow) length (flowAt u flow .weight)) ≡ e → (f : Bool) → ltb tagLimit (flowAt u flow .next) ≡ f
           → P (unless u
-              (cond a (some NoSuchFlow) (cond (not b) (some NotOpen) (cond c (some BeyondLimit) (cond d (some PlacesFull) (cond (e || f) (some TagsUsedUp) none)))))
-              (accepted u flow length))
+          (cond a (some NoSuchFlow) (cond (not b) (some NotOpen) (cond c (some BeyondLimit) (cond d (some PlacesFull) (cond (e || f) (some TagsUsedUp) none)))))
+          (accepted u flow length))
       go true p b o c q d r e s f t = no NoSuchFlow
       go false p false o c q d r e s f t = no NotOpen
       go false p true o true q d r e s f t = no BeyondLimit

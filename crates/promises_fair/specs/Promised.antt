@@ -59,12 +59,12 @@ abbrev pub First : Packets → Answer → Type 0
 First h (Begun flow number length start) =
     Some
     (λ (a : Packet).
-        (waits h a ≡ true)
-        × (a .flow ≡ flow)
-        × (a .number ≡ number)
-        × (a .length ≡ length)
-        × (a .start ≡ start .0)
-        × Each (λ (b : Packet). waits h b ≡ true → comesBefore (packetKey b) (packetKey a) ≡ false) (h .accepted))
+    (waits h a ≡ true)
+    × (a .flow ≡ flow)
+    × (a .number ≡ number)
+    × (a .length ≡ length)
+    × (a .start ≡ start .0)
+    × Each (λ (b : Packet). waits h b ≡ true → comesBefore (packetKey b) (packetKey a) ≡ false) (h .accepted))
     (h .accepted)
 First h (Refused r) = Unit {0}
 First h Opened = ⊥

@@ -1,10 +1,11 @@
 // What the station counts in, the limit of every number, and the refusals.
 ghost use mathlib.Core.Path.{_≡_};
-ghost use Prim.Native.Nat.{_+_, _-_, _%_};
+ghost use Prim.Native.Nat.{_+_};
 ghost use lib.Dec.{ltb};
 ghost use Rattle.units.specs.Limits.{outsideOf, badWeight, badDeadline, badLength};
 ghost use Rattle.units.specs.Refusals.{numberOf};
 ghost use Rattle.units.specs.Charges.{chargeOf};
+ghost use Rattle.units.specs.Radio.{slotsPassed};
 
 // A turn of the radio, counted from 0.
 pub struct Slot(pub u64);
@@ -130,7 +131,7 @@ pub fn charge(weight: u64) -> u64
 // How many slots have passed from one reading of the radio's own count to a later one.
 // A gap of 65,536 slots or more cannot be told from a shorter one.
 pub fn slots_passed(earlier: u16, later: u16) -> u16
-    ensures { λ r. ⌜ r ≡ (later + 65536 - earlier) % 65536 ⌝ }
+    ensures { λ r. ⌜ r ≡ slotsPassed earlier later ⌝ }
 {
     std::num::wrapping_sub_u16(later, earlier)
 }

@@ -1,0 +1,41 @@
+-- The one proof of the promises.
+use mathlib.Core.Path.{_≡_, refl}
+use mathlib.Core.List.{List}
+use Prim.Native.Nat.{ℕ, _+_, _%_, _<_}
+use native.Mathlib.Omega.{arith}
+use Rattle.units.proofs.Charges.{product-rule}
+use Rattle.units.specs.Radio.{slotsPassed}
+use Rattle.admission.proofs.Published.{published}
+use Rattle.station.proofs.Laws.{refused-first, refused-same}
+use Rattle.promises_urgent.proofs.Account.{conserved, few-numbers, sends-earliest}
+use Rattle.promises_urgent.proofs.Own.{own-plan}
+use Rattle.promises_urgent.proofs.Optimal.{none-better}
+use Rattle.promises_urgent.proofs.Reason.{explained}
+use Rattle.station.specs.declared.Call.{Call}
+use Rattle.promises.specs.Run.{fresh, run}
+use Rattle.promises.specs.Promises.{Promises}
+use Rattle.promises.proofs.Run.{run-on, good-run, urgent-only, fair-only}
+
+pub promises : Promises
+promises =
+    record {
+      run-on = run-on fresh;
+      S1 = refused-same;
+      S2 = refused-first;
+      S3-urgent = urgent-only;
+      S3-fair = fair-only;
+      U0 = λ calls. good-run calls .kept .time;
+      U1 = λ calls.
+          let r = run calls in
+          let g = good-run calls in
+          record { conserved = conserved (r .station .urgent) (r .cells) (g .kept); missedAddUp = g .missed; cellForCell = g .kept .tied };
+      U2 = λ calls. sends-earliest (run calls .station .urgent) (run calls .cells) (good-run calls .kept);
+      U3-numbers = λ calls. good-run calls .kept .numbered;
+      U3-few = λ calls. few-numbers (run calls .station .urgent) (run calls .cells) (good-run calls .kept) (good-run calls .few);
+      U4 = λ calls. own-plan (run calls .cells) (good-run calls .sends) (good-run calls .kept .numbered);
+      U5 = λ calls. none-better (run calls .cells) (good-run calls .best);
+      U6 = λ calls. explained (run calls .cells) (good-run calls .reasons);
+      F4-charges = product-rule;
+      A1 = published;
+      R1 = λ earlier later e l. (omega arith, omega arith);
+    }

@@ -1,0 +1,72 @@
+-- What holds of a fresh station and is kept by each call holds after every list of calls; and the lanes apart over whole lists.
+use mathlib.Core.Path.{_≡_, refl, ap₂, _∙_}
+use mathlib.Core.Bool.{Bool, true, false, not, cond}
+use mathlib.Core.List.{List, [], _∷_, _++_}
+use borrow.Author.Tests.{not-true, not-false}
+use Rattle.station.specs.declared.Station.{Station}
+use Rattle.station.specs.declared.Reply.{Reply}
+use Rattle.station.specs.declared.Call.{Call}
+use Rattle.station.specs.declared.Call.the-variants.{OpenUrgent, OpenFair, OfferCell, OfferPacket, OpenTurn, LostTurn, Begin, End}
+use Rattle.station.specs.Calls.{freshStation, callOf}
+use Rattle.station.specs.Laws.{isUrgent}
+use Rattle.station.proofs.Laws.{lanes-apart}
+use Rattle.promises_urgent.specs.Cells.{Cells}
+use Rattle.promises_urgent.proofs.Good.{Good, good-fresh, good-open, good-offer, good-turn}
+use Rattle.promises.specs.Promises.{isFair}
+use Rattle.promises.specs.Run.{Run, after, fresh, run, runFrom, replies, repliesTo, only}
+
+pub run-on : (r : Run) (xs ys : List Call) → runFrom r (xs ++ ys) ≡ runFrom (runFrom r xs) ys
+unfolding runFrom
+run-on r [] ys = refl
+run-on r (call ∷ xs) ys = run-on (after r call) xs ys
+
+-- ---- the urgent lane
+abbrev GoodRun : Run → Type 0
+GoodRun r = Good (r .station .urgent) (r .cells)
+
+good-after : (r : Run) (call : Call) → GoodRun r → GoodRun (after r call)
+unfolding callOf
+good-after r (OpenUrgent flow deadline) g = good-open (r .station .urgent) (r .cells) g flow deadline
+good-after r (OpenFair flow weight) g = g
+good-after r (OfferCell flow) g = good-offer (r .station .urgent) (r .cells) g flow
+good-after r (OfferPacket flow length) g = g
+good-after r OpenTurn g = good-turn (r .station .urgent) (r .cells) g true
+good-after r LostTurn g = good-turn (r .station .urgent) (r .cells) g false
+good-after r Begin g = g
+good-after r End g = g
+
+good-from : (r : Run) (calls : List Call) → GoodRun r → GoodRun (runFrom r calls)
+unfolding runFrom
+good-from r [] g = g
+good-from r (call ∷ calls) g = good-from (after r call) calls (good-after r call g)
+
+pub good-run : (calls : List Call) → Good (run calls .station .urgent) (run calls .cells)
+good-run calls = good-from fresh calls good-fresh
+
+-- ---- the lanes apart: of two stations with one lane alike, one gets all calls and the other only those of that lane
+module _ (test : Call → Bool) (Alike : Station → Station → Type 0)
+    (other : (s t : Station) (call : Call) → test call ≡ false → Alike s t → Alike (callOf s call .station) t)
+    (own : (s t : Station) (call : Call) → test call ≡ true → Alike s t → (callOf s call .reply ≡ callOf t call .reply) × Alike (callOf s call .station) (callOf t call .station))
+  where
+    only-own : (s t : Station) (calls : List Call) → Alike s t → repliesTo test s calls ≡ replies t (only test calls)
+    unfolding repliesTo replies only
+    only-own s t [] e = refl
+    only-own s t (call ∷ calls) e = go (test call) refl (λ t′. only-own (callOf s call .station) t′ calls)
+      where
+        go : (b : Bool) → test call ≡ b
+            → ((t′ : Station) → Alike (callOf s call .station) t′ → repliesTo test (callOf s call .station) calls ≡ replies t′ (only test calls))
+            → cond b (callOf s call .reply ∷ repliesTo test (callOf s call .station) calls) (repliesTo test (callOf s call .station) calls)
+            ≡ replies t (cond b (call ∷ only test calls) (only test calls))
+        go true p r =
+            let o = own s t call p e in
+            ap₂ (λ (x : Reply) (xs : List Reply). x ∷ xs) (o .0) (r (callOf t call .station) (o .1))
+        go false p r = r t (other s t call p e)
+
+pub urgent-only : (calls : List Call) → repliesTo isUrgent freshStation calls ≡ replies freshStation (only isUrgent calls)
+urgent-only calls =
+    only-own isUrgent (λ s t. s .urgent ≡ t .urgent) (λ s t call p e. lanes-apart .fairCall s call p ∙ e) (lanes-apart .urgentAlone) freshStation freshStation calls refl
+
+pub fair-only : (calls : List Call) → repliesTo isFair freshStation calls ≡ replies freshStation (only isFair calls)
+fair-only calls =
+    only-own isFair (λ s t. s .fair ≡ t .fair) (λ s t call p e. lanes-apart .urgentCall s call (not-false (isUrgent call) p) ∙ e)
+    (λ s t call p. lanes-apart .fairAlone s t call (not-true (isUrgent call) p)) freshStation freshStation calls refl

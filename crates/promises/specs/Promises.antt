@@ -1,0 +1,60 @@
+-- The promises, each a field of one record, over every list of calls from a fresh station unless it says otherwise.
+use mathlib.Core.Path.{_≡_}
+use mathlib.Core.Bool.{Bool, true, false, not}
+use mathlib.Core.List.{List, _++_}
+use mathlib.Core.Option.{some}
+use Prim.Native.Nat.{ℕ, _+_, _%_, _<_}
+use Rattle.units.specs.Refusals.{Ground, firstOf}
+use Rattle.units.specs.Charges.{ProductRule}
+use Rattle.units.specs.Radio.{slotsPassed}
+use Rattle.units.specs.declared.Refusal.{Refusal}
+use Rattle.admission.specs.Published.{Published}
+use Rattle.promises_urgent.specs.Cells.{Cells}
+use Rattle.promises_urgent.specs.Promised.{OnTime, Accounted, SendsEarliest, Numbered, FewNumbers, OwnPlan, NoneBetter, Explained}
+use Rattle.promises_urgent.specs.Refused.{turnTold}
+use Rattle.promises_urgent.specs.Refused.{openingTold as urgentOpeningTold, offeringTold as cellTold}
+use Rattle.station.specs.declared.Station.{Station}
+use Rattle.station.specs.declared.Call.{Call}
+use Rattle.station.specs.declared.Call.the-variants.{OpenUrgent, OpenFair, OfferCell, OfferPacket, OpenTurn, LostTurn, Begin, End}
+use Rattle.station.specs.Calls.{freshStation, callOf}
+use Rattle.station.specs.Answers.{refusalIn}
+use Rattle.station.specs.Laws.{isUrgent, groundsOf}
+use Rattle.promises.specs.Run.{Run, run, runFrom, replies, repliesTo, only}
+
+-- calls of the fair lane
+abbrev pub isFair : Call → Bool
+isFair call = not (isUrgent call)
+
+pub record Promises : Type 0 where
+  -- a list of calls goes on where a shorter one left off
+  pub run-on : (xs ys : List Call) → run (xs ++ ys) ≡ runFrom (run xs) ys
+  -- S1: a refused call leaves the station as it was, in every state
+  pub S1 : (s : Station) (call : Call) (r : Refusal) → refusalIn (callOf s call .reply) ≡ some r → callOf s call .station ≡ s
+  -- S2: a call is refused exactly for the first of its grounds that holds, in every state
+  pub S2 : (s : Station) (call : Call) → refusalIn (callOf s call .reply) ≡ firstOf (groundsOf s call)
+  -- S3: the lanes share nothing: the replies to one lane's calls are the replies to those calls alone
+  pub S3-urgent : (calls : List Call) → repliesTo isUrgent freshStation calls ≡ replies freshStation (only isUrgent calls)
+  pub S3-fair : (calls : List Call) → repliesTo isFair freshStation calls ≡ replies freshStation (only isFair calls)
+  -- U0: time is the calls': the slot number is the number of turns answered and not refused
+  pub U0 : (calls : List Call) → OnTime (run calls .station .urgent) (run calls .cells)
+  -- U1: accepted = sent + missed + waiting, and the places held are the waiting cells
+  pub U1 : (calls : List Call) → Accounted (run calls .station .urgent) (run calls .cells)
+  -- U2: an open turn sends the waiting cell with the earliest last slot
+  pub U2 : (calls : List Call) → SendsEarliest (run calls .station .urgent) (run calls .cells)
+  -- U3: cells are numbered from 0 in each flow, their windows are those of the rules, and no number wraps
+  pub U3-numbers : (calls : List Call) → Numbered (run calls .cells .accepted)
+  pub U3-few : (calls : List Call) → FewNumbers (run calls .station .urgent) (run calls .cells)
+  -- U4: the lane's own sendings are a plan: each cell once, in an open slot, inside its window
+  pub U4 : (calls : List Call) → OwnPlan (run calls .cells)
+  -- U5: demand 3: no plan, even one drawn up in hindsight, could have sent more
+  pub U5 : (calls : List Call) → NoneBetter (run calls .cells)
+  -- U6: every missed cell has a reason
+  pub U6 : (calls : List Call) → Explained (run calls .cells)
+  -- F4: every charge times its weight is 720,720
+  pub F4-charges : ProductRule
+  -- A1: admission is the published link test
+  pub A1 : Published
+  -- R1: slots passed lead from the earlier count to the later, and equal counts give 0
+  pub R1 :
+      (earlier later : ℕ) → earlier < 65536 → later < 65536
+      → ((earlier + slotsPassed earlier later) % 65536 ≡ later) × (slotsPassed earlier earlier ≡ 0)
