@@ -6,3 +6,5 @@ pub mod Least
 pub mod Clear
 pub mod Apart
 pub mod Members
+pub mod Tests
+pub mod Stores

@@ -45,3 +45,15 @@ module _ {A : Type 0} where
   each-at P d [] i l e = absurd (not-suc-le-zero l)
   each-at P d (x ∷ xs) zero l e = e .0
   each-at P d (x ∷ xs) (suc i) l e = each-at P d xs i (omega arith) (e .1)
+
+  -- what follows from each member that a statement holds of follows where it holds of some
+  pub some-gives : (P : A → Type 0) (R : Type 0) → ((x : A) → P x → R) → (xs : List A) → Some P xs → R
+  some-gives P R f [] s = absurd s
+  some-gives P R f (x ∷ xs) (inl p) = f x p
+  some-gives P R f (x ∷ xs) (inr s) = some-gives P R f xs s
+
+  -- what holds of each holds of the one that a statement holds of
+  pub some-both : (P Q : A → Type 0) (xs : List A) → Some P xs → Each Q xs → Some (λ x. P x × Q x) xs
+  some-both P Q [] s e = s
+  some-both P Q (x ∷ xs) (inl p) e = inl (p, e .0)
+  some-both P Q (x ∷ xs) (inr s) e = inr (some-both P Q xs s (e .1))

@@ -11,10 +11,11 @@ use Rattle.promises_urgent.proofs.Account.{conserved, few-numbers, sends-earlie
 use Rattle.promises_urgent.proofs.Own.{own-plan}
 use Rattle.promises_urgent.proofs.Optimal.{none-better}
 use Rattle.promises_urgent.proofs.Reason.{explained}
+use Rattle.promises_fair.proofs.Account.{as-published, served-in-order, ends-and-numbers, never-falls}
 use Rattle.station.specs.declared.Call.{Call}
 use Rattle.promises.specs.Run.{fresh, run}
 use Rattle.promises.specs.Promises.{Promises}
-use Rattle.promises.proofs.Run.{run-on, good-run, urgent-only, fair-only}
+use Rattle.promises.proofs.Run.{run-on, good-run, fair-run, refused-as-told, urgent-only, fair-only}
 
 pub promises : Promises
 promises =
@@ -24,6 +25,7 @@ promises =
       S2 = refused-first;
       S3-urgent = urgent-only;
       S3-fair = fair-only;
+      S4 = refused-as-told;
       U0 = λ calls. good-run calls .kept .time;
       U1 = λ calls.
           let r = run calls in
@@ -35,6 +37,10 @@ promises =
       U4 = λ calls. own-plan (run calls .cells) (good-run calls .sends) (good-run calls .kept .numbered);
       U5 = λ calls. none-better (run calls .cells) (good-run calls .best);
       U6 = λ calls. explained (run calls .cells) (good-run calls .reasons);
+      F1 = λ calls. as-published (run calls .station .fair) (run calls .packets) (fair-run calls);
+      F2 = λ calls. served-in-order (run calls .station .fair) (run calls .packets) (fair-run calls);
+      F3 = λ calls. ends-and-numbers (run calls .station .fair) (run calls .packets) (fair-run calls);
+      F4-time = λ calls. never-falls (run calls .station .fair) (run calls .packets) (fair-run calls);
       F4-charges = product-rule;
       A1 = published;
       R1 = λ earlier later e l. (omega arith, omega arith);

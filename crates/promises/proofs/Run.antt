@@ -11,8 +11,13 @@ use Rattle.station.specs.Calls.{freshStation, callOf}
 use Rattle.station.specs.Laws.{isUrgent}
 use Rattle.station.proofs.Laws.{lanes-apart}
 use Rattle.promises_urgent.specs.Cells.{Cells}
+use Rattle.units.specs.Refusals.{firstOf}
+use Rattle.station.specs.Answers.{refusalIn}
+use Rattle.promises_urgent.proofs.Account.{refused-as-told as urgent-told}
+use Rattle.promises_fair.proofs.Account.{refused-as-told as fair-told}
+use Rattle.promises_fair.proofs.Good.{Good as FairGood, good-fresh as fair-fresh, good-open as fair-open, good-offer as fair-offer, good-begin, good-end, good-other}
 use Rattle.promises_urgent.proofs.Good.{Good, good-fresh, good-open, good-offer, good-turn}
-use Rattle.promises.specs.Promises.{isFair}
+use Rattle.promises.specs.Promises.{isFair, groundsTold}
 use Rattle.promises.specs.Run.{Run, after, fresh, run, runFrom, replies, repliesTo, only}
 
 pub run-on : (r : Run) (xs ys : List Call) → runFrom r (xs ++ ys) ≡ runFrom (runFrom r xs) ys
@@ -42,6 +47,44 @@ good-from r (call ∷ calls) g = good-from (after r call) calls (good-after r ca
 
 pub good-run : (calls : List Call) → Good (run calls .station .urgent) (run calls .cells)
 good-run calls = good-from fresh calls good-fresh
+
+-- ---- the fair lane
+abbrev FairRun : Run → Type 0
+FairRun r = FairGood (r .station .fair) (r .packets)
+
+fair-after : (r : Run) (call : Call) → FairRun r → FairRun (after r call)
+unfolding callOf
+fair-after r (OpenUrgent flow deadline) g = good-other (r .station .fair) (r .packets) g
+fair-after r (OpenFair flow weight) g = fair-open (r .station .fair) (r .packets) g flow weight
+fair-after r (OfferCell flow) g = good-other (r .station .fair) (r .packets) g
+fair-after r (OfferPacket flow length) g = fair-offer (r .station .fair) (r .packets) g flow length
+fair-after r OpenTurn g = good-other (r .station .fair) (r .packets) g
+fair-after r LostTurn g = good-other (r .station .fair) (r .packets) g
+fair-after r Begin g = good-begin (r .station .fair) (r .packets) g
+fair-after r End g = good-end (r .station .fair) (r .packets) g
+
+fair-from : (r : Run) (calls : List Call) → FairRun r → FairRun (runFrom r calls)
+unfolding runFrom
+fair-from r [] g = g
+fair-from r (call ∷ calls) g = fair-from (after r call) calls (fair-after r call g)
+
+pub fair-run : (calls : List Call) → FairGood (run calls .station .fair) (run calls .packets)
+fair-run calls = fair-from fresh calls fair-fresh
+
+-- ---- what a call is refused for
+refused-from : (r : Run) → GoodRun r → FairRun r → (call : Call) → refusalIn (callOf (r .station) call .reply) ≡ firstOf (groundsTold r call)
+unfolding callOf
+refused-from r g f (OpenUrgent flow deadline) = urgent-told (r .station .urgent) (r .cells) (g .kept) .opening flow deadline
+refused-from r g f (OpenFair flow weight) = fair-told (r .station .fair) (r .packets) f .opening flow weight
+refused-from r g f (OfferCell flow) = urgent-told (r .station .urgent) (r .cells) (g .kept) .offering flow
+refused-from r g f (OfferPacket flow length) = fair-told (r .station .fair) (r .packets) f .offering flow length
+refused-from r g f OpenTurn = urgent-told (r .station .urgent) (r .cells) (g .kept) .turning true
+refused-from r g f LostTurn = urgent-told (r .station .urgent) (r .cells) (g .kept) .turning false
+refused-from r g f Begin = fair-told (r .station .fair) (r .packets) f .beginning
+refused-from r g f End = fair-told (r .station .fair) (r .packets) f .ending
+
+pub refused-as-told : (calls : List Call) (call : Call) → refusalIn (callOf (run calls .station) call .reply) ≡ firstOf (groundsTold (run calls) call)
+refused-as-told calls call = refused-from (run calls) (good-run calls) (fair-run calls) call
 
 -- ---- the lanes apart: of two stations with one lane alike, one gets all calls and the other only those of that lane
 module _ (test : Call → Bool) (Alike : Station → Station → Type 0)

@@ -11,8 +11,9 @@ use Rattle.units.specs.declared.Refusal.{Refusal}
 use Rattle.admission.specs.Published.{Published}
 use Rattle.promises_urgent.specs.Cells.{Cells}
 use Rattle.promises_urgent.specs.Promised.{OnTime, Accounted, SendsEarliest, Numbered, FewNumbers, OwnPlan, NoneBetter, Explained}
-use Rattle.promises_urgent.specs.Refused.{turnTold}
-use Rattle.promises_urgent.specs.Refused.{openingTold as urgentOpeningTold, offeringTold as cellTold}
+use Rattle.promises_urgent.specs.Refused.{openingTold as urgentOpening, offeringTold as cellOffering, turnTold}
+use Rattle.promises_fair.specs.Promised.{AsPublished, ServedInOrder, EndsAndNumbers, NeverFalls}
+use Rattle.promises_fair.specs.Refused.{openingTold as fairOpening, offeringTold as packetOffering, beginTold, endTold}
 use Rattle.station.specs.declared.Station.{Station}
 use Rattle.station.specs.declared.Call.{Call}
 use Rattle.station.specs.declared.Call.the-variants.{OpenUrgent, OpenFair, OfferCell, OfferPacket, OpenTurn, LostTurn, Begin, End}
@@ -25,6 +26,18 @@ use Rattle.promises.specs.Run.{Run, run, runFrom, replies, repliesTo, on
 abbrev pub isFair : Call → Bool
 isFair call = not (isUrgent call)
 
+-- what a call is refused for, read off the calls and replies so far: opened is an opening answered ok; waiting is accepted, not sent
+-- and not gone by, or accepted and not begun; in service is a begin answered and no end since; the slot is U0's and the tags are F1's
+abbrev pub groundsTold : Run → Call → List Ground
+groundsTold r (OpenUrgent flow deadline) = urgentOpening (r .cells) flow deadline
+groundsTold r (OpenFair flow weight) = fairOpening (r .packets) flow weight
+groundsTold r (OfferCell flow) = cellOffering (r .cells) flow
+groundsTold r (OfferPacket flow length) = packetOffering (r .packets) flow length
+groundsTold r OpenTurn = turnTold (r .cells)
+groundsTold r LostTurn = turnTold (r .cells)
+groundsTold r Begin = beginTold (r .packets)
+groundsTold r End = endTold (r .packets)
+
 pub record Promises : Type 0 where
   -- a list of calls goes on where a shorter one left off
   pub run-on : (xs ys : List Call) → run (xs ++ ys) ≡ runFrom (run xs) ys
@@ -35,6 +48,8 @@ pub record Promises : Type 0 where
   -- S3: the lanes share nothing: the replies to one lane's calls are the replies to those calls alone
   pub S3-urgent : (calls : List Call) → repliesTo isUrgent freshStation calls ≡ replies freshStation (only isUrgent calls)
   pub S3-fair : (calls : List Call) → repliesTo isFair freshStation calls ≡ replies freshStation (only isFair calls)
+  -- S4: a call is refused exactly as the calls and replies so far tell; one that no condition refuses is accepted
+  pub S4 : (calls : List Call) (call : Call) → refusalIn (callOf (run calls .station) call .reply) ≡ firstOf (groundsTold (run calls) call)
   -- U0: time is the calls': the slot number is the number of turns answered and not refused
   pub U0 : (calls : List Call) → OnTime (run calls .station .urgent) (run calls .cells)
   -- U1: accepted = sent + missed + waiting, and the places held are the waiting cells
@@ -50,6 +65,14 @@ pub record Promises : Type 0 where
   pub U5 : (calls : List Call) → NoneBetter (run calls .cells)
   -- U6: every missed cell has a reason
   pub U6 : (calls : List Call) → Explained (run calls .cells)
+  -- F1: virtual time and the tags of every accepted packet are the published ones
+  pub F1 : (calls : List Call) → AsPublished (run calls .station .fair) (run calls .packets)
+  -- F2: begin takes the packet with the smallest start tag, within a flow the lowest number; the places held are the waiting packets
+  pub F2 : (calls : List Call) → ServedInOrder (run calls .station .fair) (run calls .packets)
+  -- F3: end answers the packet last begun; packets are numbered from 0 in each flow, and no number wraps
+  pub F3 : (calls : List Call) → EndsAndNumbers (run calls .station .fair) (run calls .packets)
+  -- F4: virtual time never falls
+  pub F4-time : (calls : List Call) → NeverFalls (run calls .station .fair) (run calls .packets)
   -- F4: every charge times its weight is 720,720
   pub F4-charges : ProductRule
   -- A1: admission is the published link test

@@ -1,8 +1,11 @@
--- Each case of a packet's finish, from the tests that lead to it, and that what a packet costs is far from the largest number.
+-- The later of two tags by its number, each case of a packet's finish, from the tests that lead to it, and that what a packet costs is
+-- far from the largest number.
 use mathlib.Core.Path.{_≡_, refl, sym, _∙_}
 use mathlib.Core.Bool.{Bool, true, false, cond}
-use Prim.Native.Nat.{ℕ, _+_, _*_, _≤_}
+use Prim.Native.Nat.{ℕ, _+_, _*_, _≤_, max}
 use native.Mathlib.Nat.{mul-le-mul}
+use native.Mathlib.Omega.{arith}
+use borrow.Author.Tests.{ltb-true, ltb-false}
 use lib.Dec.{ltb}
 use Rattle.units.specs.Limits.{tagLimit, badLength}
 use Rattle.units.specs.Charges.{chargeOf}
@@ -11,7 +14,15 @@ use Rattle.units.proofs.Limits.{inside}
 use Rattle.units.proofs.Charges.{charge-most}
 use Rattle.tags.specs.declared.Finish.{Finish}
 use Rattle.tags.specs.declared.Finish.the-variants.{At, Beyond}
-use Rattle.tags.specs.Tags.{finishAt, finishOf}
+use Rattle.tags.specs.Tags.{laterOf, finishAt, finishOf}
+
+-- the later of two tags is the larger number
+pub later-max : (a b : Tag) → laterOf a b .0 ≡ max (a .0) (b .0)
+later-max a b = go (ltb (a .0) (b .0)) refl
+  where
+    go : (t : Bool) → ltb (a .0) (b .0) ≡ t → cond t b a .0 ≡ max (a .0) (b .0)
+    go true p = omega (arith, ltb-true (a .0) (b .0) p)
+    go false p = omega (arith, ltb-false (a .0) (b .0) p)
 
 module _ (start : Tag) (length weight : ℕ) where
   pub no-packet : badLength length ≡ true → Beyond ≡ finishOf start length weight

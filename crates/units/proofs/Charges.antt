@@ -3,7 +3,7 @@ use mathlib.Core.Path.{_≡_, refl, ap, sym, _∙_}
 use mathlib.Core.Bool.{Bool, true, false, _&&_, true≢false, false≢true}
 use Prim.Native.Nat.{ℕ, zero, suc, _+_, _*_, _-_, _≤_, _<_}
 use native.Mathlib.Decide.{decLt}
-use native.Mathlib.Nat.{not-suc-le-zero, le-mul-of-pos-right}
+use native.Mathlib.Nat.{not-suc-le-zero, le-mul-of-pos-right, zero-mul}
 use native.Mathlib.Omega.{arith}
 use borrow.Author.Tests.{eqb-true}
 use lib.Dec.{eqb}
@@ -53,3 +53,11 @@ charge-most weight = go (badWeight weight) refl
     go false p =
         let l = inside weight 16 p in
         omega (arith, product-rule weight p, le-mul-of-pos-right {m = weight} (chargeOf weight) (omega arith))
+
+-- every byte costs something, at a weight that a flow can have
+pub charge-least : (weight : ℕ) → badWeight weight ≡ false → 1 ≤ chargeOf weight
+charge-least weight good = go (chargeOf weight) (product-rule weight good)
+  where
+    go : (charge : ℕ) → charge * weight ≡ byteUnits → 1 ≤ charge
+    go zero e = absurd (omega (arith, zero-mul weight))
+    go (suc c) e = omega arith

@@ -1,0 +1,86 @@
+-- What a line is read as, byte by byte, and the law by which a reader may go instead: a line is read as a call exactly where it is the call's one text.
+use mathlib.Core.Bool.{Bool, cond, _&&_}
+use mathlib.Core.List.{List, [], _∷_}
+use mathlib.Core.Option.{Option, none, some}
+use mathlib.Core.Path.{_≡_}
+use Prim.Native.Nat.{ℕ, _+_, _-_, _*_, _≤_}
+use lib.Dec.{ltb, leb, eqb}
+use lib.ListN.{length, drop}
+use Rattle.station.specs.declared.Call.{Call}
+use Rattle.station.specs.declared.Call.the-variants.{OpenUrgent, OpenFair, OfferCell, OfferPacket, OpenTurn, LostTurn, Begin, End}
+use Rattle.lines.specs.declared.Parsed.{Parsed}
+use Rattle.lines.specs.declared.Parsed.the-variants.{Command, NoCommand}
+use Rattle.lines.specs.declared.parsing.Field.{Field}
+use Rattle.lines.specs.declared.parsing.Field.the-variants.{Number, Missing}
+use Rattle.lines.specs.Grammar.{blank, largest, bigU, bigF, smallU, smallF, smallT, smallX, smallB, smallE, textOf, Small}
+
+abbrev pub isDigit : ℕ → Bool
+isDigit b = leb 48 b && leb b 57
+
+-- the number with one digit more
+abbrev pub grown : ℕ → ℕ → ℕ
+grown value b = value * 10 + (b - 48)
+
+-- a number goes on with a digit where it is not 0 so far and stays within the largest
+abbrev pub goesOn : ℕ → ℕ → Bool
+goesOn value b = isDigit b && (leb 1 value && leb (grown value b) largest)
+
+-- a number and what follows it
+abbrev pub Taken : Type 0
+Taken = ℕ × List ℕ
+
+-- the rest of a number, up to a blank or the end
+unfoldable pub readOn : ℕ → List ℕ → Option Taken
+readOn value [] = some (value, [])
+readOn value (b ∷ bs) = cond (eqb b blank) (some (value, b ∷ bs)) (cond (goesOn value b) (readOn (grown value b) bs) none)
+
+abbrev pub readNumber : List ℕ → Option Taken
+readNumber [] = none
+readNumber (b ∷ bs) = cond (isDigit b) (readOn (b - 48) bs) none
+
+-- a letter alone, with one number, and with two
+abbrev pub wordOf : ℕ → Option Call
+wordOf letter =
+    cond (eqb letter smallT) (some OpenTurn)
+    (cond (eqb letter smallX) (some LostTurn)
+    (cond (eqb letter smallB) (some Begin) (cond (eqb letter smallE) (some End) none)))
+
+abbrev pub oneOf : ℕ → ℕ → Option Call
+oneOf letter a = cond (eqb letter smallU) (some (OfferCell a)) none
+
+abbrev pub twoOf : ℕ → ℕ → ℕ → Option Call
+twoOf letter a b =
+    cond (eqb letter bigU) (some (OpenUrgent a b))
+    (cond (eqb letter bigF) (some (OpenFair a b)) (cond (eqb letter smallF) (some (OfferPacket a b)) none))
+
+abbrev pub readSecond : ℕ → ℕ → Option Taken → Option Call
+readSecond letter a none = none
+readSecond letter a (some (b, [])) = twoOf letter a b
+readSecond letter a (some (b, x ∷ rest)) = none
+
+abbrev pub readFirst : ℕ → Option Taken → Option Call
+readFirst letter none = none
+readFirst letter (some (a, [])) = oneOf letter a
+readFirst letter (some (a, x ∷ rest)) = readSecond letter a (readNumber rest)
+
+abbrev pub readCall : List ℕ → Option Call
+readCall [] = none
+readCall (letter ∷ []) = wordOf letter
+readCall (letter ∷ x ∷ rest) = cond (eqb x blank) (readFirst letter (readNumber rest)) none
+
+abbrev pub parsedOf : Option Call → Parsed
+parsedOf none = NoCommand
+parsedOf (some c) = Command c
+
+-- A line is read as a call exactly where it is the call's one text and each number is small enough; any other line is none.
+abbrev pub ReadsOneText : Type 0
+ReadsOneText =
+    (line : List ℕ)
+    → ((c : Call) → readCall line ≡ some c → (line ≡ textOf c) × Small c)
+    × ((c : Call) → line ≡ textOf c → Small c → readCall line ≡ some c)
+    × (((c : Call) → line ≡ textOf c → Small c → ⊥) → readCall line ≡ none)
+
+-- a field of a line as it was taken: its number, and the place from which the rest stands
+abbrev pub Reads : List ℕ → Field → Option Taken → Type 0
+Reads line (Number value next) taken = (next ≤ length line) × (taken ≡ some (value, drop next line))
+Reads line Missing taken = taken ≡ none

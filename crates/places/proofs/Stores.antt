@@ -1,0 +1,53 @@
+-- A store in a list of places: what stands where after it, and a count before and after it. A flow's first free place is free and its own.
+use mathlib.Core.Path.{_≡_}
+use mathlib.Core.Bool.{Bool, false}
+use mathlib.Core.List.{List}
+use Prim.Native.Nat.{ℕ, _+_, _*_, _≤_, _<_}
+use native.Mathlib.Decide.{ℕ-discrete}
+use native.Mathlib.Nat.{div-eq-of-lt-le, add-mul, one-mul}
+use native.Mathlib.Omega.{arith}
+use lib.ListN.{length, getD, set, drop}
+use lib.Seq.{getD-set-same, getD-set-other, getD-take, getD-drop}
+use Rattle.places.specs.Places.{bit, count, countAt, placesOf, flowOf, firstFree}
+use Rattle.places.proofs.CountAt.{at-set}
+use Rattle.places.proofs.Free.{room-left, first-is-free, part-length}
+
+module _ {A : Type 0} (xs : List A) (i : ℕ) (x d : A) (low : i < length xs) where
+  -- an entry is the one stored, or as it was
+  pub set-cases : (j : ℕ) (P : A → Type 0) → (j ≡ i → P x) → ((j ≡ i → ⊥) → P (getD xs j d)) → P (getD (set xs i x) j d)
+  set-cases j P same other = go (ℕ-discrete j i)
+    where
+      go : Dec (j ≡ i) → P (getD (set xs i x) j d)
+      go (yes e) = rw (e, getD-set-same xs i x d low) (same e)
+      go (no n) = rw (getD-set-other xs i j x d n) (other n)
+
+  -- a store where nothing was counted
+  pub at-more : (p : ℕ → A → Bool) → p i (getD xs i d) ≡ false → countAt p 0 (set xs i x) ≡ bit (p i x) + countAt p 0 xs
+  at-more p f =
+      let z : 0 + i ≡ i = omega arith in
+      let s = rw (z, f) at (at-set p 0 xs i x d low) in
+      omega arith
+
+  -- a store of what is not counted
+  pub at-less : (p : ℕ → A → Bool) → p i x ≡ false → countAt p 0 (set xs i x) + bit (p i (getD xs i d)) ≡ countAt p 0 xs
+  at-less p f =
+      let z : 0 + i ≡ i = omega arith in
+      let s = rw (z, f) at (at-set p 0 xs i x d low) in
+      omega arith
+
+-- a flow's first free place, where one is free
+module _ {A : Type 0} (held : A → Bool) (d : A) (xs : List A) (n flow : ℕ) (fits : flow * n + n ≤ length xs) (room : count held (placesOf n flow xs) < n) where
+  first-low : firstFree held (placesOf n flow xs) < n
+  first-low = omega (arith, part-length held d xs (flow * n) n fits, room-left held (placesOf n flow xs) (omega (arith, part-length held d xs (flow * n) n fits)))
+
+  pub free-low : flow * n + firstFree held (placesOf n flow xs) < length xs
+  free-low = omega (arith, first-low)
+
+  pub free-flow : flowOf n (flow * n + firstFree held (placesOf n flow xs)) ≡ flow
+  free-flow = div-eq-of-lt-le n (omega arith) (omega (arith, first-low, add-mul flow 1 n, one-mul n))
+
+  pub free-unheld : held (getD xs (flow * n + firstFree held (placesOf n flow xs)) d) ≡ false
+  free-unheld =
+      let f : held (getD (placesOf n flow xs) (firstFree held (placesOf n flow xs)) d) ≡ false =
+      first-is-free held (placesOf n flow xs) d (omega (arith, first-low, part-length held d xs (flow * n) n fits)) in
+      rw (getD-take n (drop (flow * n) xs) (firstFree held (placesOf n flow xs)) d first-low, getD-drop (flow * n) xs (firstFree held (placesOf n flow xs)) d) at f

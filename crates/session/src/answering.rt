@@ -1,0 +1,50 @@
+// What a line is answered: small things alone go in, so that the station need not be moved.
+ghost use mathlib.Core.Path.{_≡_};
+ghost use Prim.Native.Nat.{_+_, _≤_};
+ghost use lib.ListN.{length, take};
+ghost use Rattle.lines.specs.Reading.{parsedOf};
+ghost use Rattle.lines.specs.Printing.{Put, noCommandLine, lineOf};
+ghost use Rattle.session.specs.Steps.{keptAs};
+use lines::Parsed;
+use station::Reply;
+use units::Refusal;
+
+// What the bytes kept of a line ask of the station; a line of more than 32 is no command.
+pub(crate) fn read(kept: [u8; 32], count: usize) -> Parsed
+    ensures { λ r. ⌜ r ≡ parsedOf (keptAs kept count) ⌝ }
+{
+    if 32 < count {
+        return Parsed::NoCommand;
+    }
+    lines::parse(&kept[..count])
+}
+
+// Puts the line of a reply into the output at a place, and answers the place after it.
+pub(crate) fn reply(told: Reply, out: &mut [u8], at: usize) -> usize
+    requires { ⌜ at + 96 ≤ length (now out) ⌝ }
+    ensures { λ r. ⌜ Put (lineOf told) (now (out .entry)) at (now (out .exit)) r ⌝ }
+{
+    let mut text = [0u8; 96];
+    let n = lines::print(told, &mut text);
+    place(text, n, out, at)
+}
+
+// Puts the line for no command into the output at a place, and answers the place after it.
+pub(crate) fn no_command(out: &mut [u8], at: usize) -> usize
+    requires { ⌜ at + 96 ≤ length (now out) ⌝ }
+    ensures { λ r. ⌜ Put noCommandLine (now (out .entry)) at (now (out .exit)) r ⌝ }
+{
+    let mut text = [0u8; 96];
+    let n = lines::print_refusal(Refusal::NoCommand, &mut text);
+    place(text, n, out, at)
+}
+
+// Puts the first n bytes of a text into the output at a place, and answers the place after them.
+fn place(text: [u8; 96], n: usize, out: &mut [u8], at: usize) -> usize
+    requires { ⌜ n ≤ 96 ⌝ }
+    requires { ⌜ at + 96 ≤ length (now out) ⌝ }
+    ensures { λ r. ⌜ Put (take n text) (now (out .entry)) at (now (out .exit)) r ⌝ }
+{
+    bytes::copy(&text[..n], &mut out[at..]);
+    at + n
+}

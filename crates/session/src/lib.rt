@@ -1,0 +1,110 @@
+// The session: bytes are cut into lines, each line is answered by the station, and the answers are written as lines.
+mod answering;
+
+ghost use mathlib.Core.Path.{_≡_};
+ghost use lib.ListN.{length};
+ghost use Rattle.lines.specs.Printing.{Printed};
+ghost use Rattle.session.specs.Steps.{freshSession, finishOf, Feeds};
+use answering::no_command;
+use answering::read;
+use answering::reply;
+use lines::Parsed;
+use station::Station;
+
+// The station, and the bytes of the line that is not at its end yet: count of them, or 33 for more than 32.
+pub struct Session {
+    pub station: Station,
+    pub kept: [u8; 32],
+    pub count: usize,
+}
+
+// The session after a piece of input, how many bytes of the input it took, and how many bytes of output it wrote.
+pub struct Fed {
+    pub session: Session,
+    pub read: usize,
+    pub written: usize,
+}
+
+impl Session {
+    // The session before any byte.
+    pub fn fresh() -> Session
+        ensures { λ r. ⌜ r ≡ freshSession ⌝ }
+    {
+        let station = Station::fresh();
+        let kept = [0u8; 32];
+        Session {
+            station: station,
+            kept: kept,
+            count: 0,
+        }
+    }
+
+    // Takes as much of the input as out has room for, and writes the answers of its lines at the start of out.
+    pub fn feed(self, input: &[u8], out: &mut [u8]) -> Fed
+        ensures { λ r. ⌜ Feeds self (now (input .entry)) (now (out .entry)) (now (out .exit)) r ⌝ }
+    {
+        let mut station = self.station;
+        let mut kept = self.kept;
+        let mut count = self.count;
+        let mut i: usize = 0;
+        let mut w: usize = 0;
+        while i < input.len() {
+            if out.len() - w < 96 {
+                break;
+            }
+            let b = input[i];
+            if b == b'\n' {
+                match read(kept, count) {
+                    Parsed::Command(call) => {
+                        let called = station.call(call);
+                        let next = called.station;
+                        let told = called.reply;
+                        station = next;
+                        w = reply(told, out, w);
+                    }
+                    Parsed::NoCommand => {
+                        w = no_command(out, w);
+                    }
+                }
+                count = 0;
+            } else {
+                if count < 32 {
+                    kept[count] = b;
+                    count += 1;
+                } else {
+                    count = 33;
+                }
+            }
+            i += 1;
+        }
+        Fed {
+            session: Session {
+                station: station,
+                kept: kept,
+                count: count,
+            },
+            read: i,
+            written: w,
+        }
+    }
+
+    // Answers the last line, if it has a byte, at the end of the input.
+    pub fn finish(self, out: &mut [u8; 96]) -> usize
+        ensures { λ r. ⌜ Printed (finishOf self) (now (out .entry)) (now (out .exit)) r ⌝ }
+    {
+        let count = self.count;
+        if count == 0 {
+            return 0;
+        }
+        let kept = self.kept;
+        match read(kept, count) {
+            Parsed::Command(call) => {
+                let station = self.station;
+                let called = station.call(call);
+                let told = called.reply;
+                lines::print(told, out)
+            }
+            Parsed::NoCommand => lines::print_refusal(units::Refusal::NoCommand, out),
+        }
+    }
+}
