@@ -16,8 +16,10 @@ use Rattle.units.specs.Limits.{placeCount, slotLimit, badDeadline}
 use Rattle.units.proofs.Limits.{inside}
 use Rattle.places.specs.Places.{bit, count, countAt, firstFree, placesOf}
 use Rattle.places.proofs.Count.{count-le, count-le-length, and-le}
-use Rattle.places.proofs.CountAt.{at-set, own-places}
-use Rattle.places.proofs.Free.{first-is-free, room-left, part-length}
+use Rattle.places.proofs.CountAt.{own-places}
+use Rattle.places.proofs.Free.{part-length}
+use Rattle.places.proofs.Tests.{and-holds}
+use Rattle.places.proofs.Stores.{set-cases, at-more, free-low, free-flow, free-unheld}
 use Rattle.urgent.specs.declared.Cell.{Cell as Place}
 use Rattle.urgent.specs.declared.Flow.{Flow}
 use Rattle.urgent.specs.declared.Urgent.{Urgent}
@@ -59,15 +61,6 @@ waiting-most u h k flow l =
       part-length isHeld freeCell (u .cells) (flow * 16) 16 (omega (arith, k .long)),
     )
 
--- a flow's record after a change of one
-flow-set : (flows : List Flow) (flow : ℕ) (x : Flow) (f : ℕ) → flow < length flows
-    → ((f ≡ flow) × (getD (set flows flow x) f shutFlow ≡ x)) ⊎ ((f ≡ flow → ⊥) × (getD (set flows flow x) f shutFlow ≡ getD flows f shutFlow))
-flow-set flows flow x f l = go (ℕ-discrete f flow)
-  where
-    go : Dec (f ≡ flow) → ((f ≡ flow) × (getD (set flows flow x) f shutFlow ≡ x)) ⊎ ((f ≡ flow → ⊥) × (getD (set flows flow x) f shutFlow ≡ getD flows f shutFlow))
-    go (yes e) = inl (e, rw e (getD-set-same flows flow x shutFlow l))
-    go (no n) = inr (n, getD-set-other flows flow f x shutFlow n)
-
 -- ---- a flow is opened
 module _ (u : Urgent) (h : Cells) (k : Kept u h) (flow deadline : ℕ) (l : flow ≤ 15) (d : badDeadline deadline ≡ false) where
   now-open : Flow
@@ -78,14 +71,11 @@ module _ (u : Urgent) (h : Cells) (k : Kept u h) (flow deadline : ℕ) (l : flow
       × (getD (set (u .flows) flow now-open) f shutFlow .deadline ≡ cond (eqb flow f) deadline (deadlineIn (h .openings) f))
       × (getD (set (u .flows) flow now-open) f shutFlow .next ≡ flowAt u f .next)
   unfolding now-open
-  open-flow f b = go (flow-set (u .flows) flow now-open f (omega (arith, k .sixteen)))
-    where
-      go : ((f ≡ flow) × (getD (set (u .flows) flow now-open) f shutFlow ≡ now-open)) ⊎ ((f ≡ flow → ⊥) × (getD (set (u .flows) flow now-open) f shutFlow ≡ getD (u .flows) f shutFlow))
-          → (getD (set (u .flows) flow now-open) f shutFlow .opened ≡ (eqb flow f || openIn (h .openings) f))
-          × (getD (set (u .flows) flow now-open) f shutFlow .deadline ≡ cond (eqb flow f) deadline (deadlineIn (h .openings) f))
-          × (getD (set (u .flows) flow now-open) f shutFlow .next ≡ flowAt u f .next)
-      go (inl e) = rw (e .1, eq-eqb flow f (sym (e .0))) (refl, refl, ap (λ (n : ℕ). flowAt u n .next) (sym (e .0)))
-      go (inr e) = rw (e .1, ne-eqb flow f (λ q. e .0 (sym q))) (k .openFlows f b, k .deadlines f b, refl)
+  open-flow f b =
+      set-cases (u .flows) flow now-open shutFlow (omega (arith, k .sixteen)) f
+      (λ x. (x .opened ≡ (eqb flow f || openIn (h .openings) f)) × (x .deadline ≡ cond (eqb flow f) deadline (deadlineIn (h .openings) f)) × (x .next ≡ flowAt u f .next))
+      (λ e. rw (eq-eqb flow f (sym e)) (refl, refl, ap (λ (n : ℕ). flowAt u n .next) (sym e)))
+      (λ n. rw (ne-eqb flow f (λ q. n (sym q))) (k .openFlows f b, k .deadlines f b, refl))
 
   pub kept-open : Kept (opened u flow deadline .lane) (noteOpening h flow deadline (opened u flow deadline .answer))
   unfolding openIn deadlineIn now-open
@@ -116,36 +106,11 @@ offeredCell u h flow =
     record { flow = flow; number = flowAt u flow .next; last = lastSlot u flow; arrival = h .slot; deadline = deadlineIn (h .openings) flow }
 
 module _ (u : Urgent) (h : Cells) (k : Kept u h) (few : Few h) (flow : ℕ) (l : flow ≤ 15) (o : flowAt u flow .opened ≡ true) (room : waitingOf u flow < 16) where
-  own : List Place
-  own = placesOf placeCount flow (u .cells)
-
-  own-long : length own ≡ 16
-  unfolding own
-  own-long = part-length isHeld freeCell (u .cells) (flow * 16) 16 (omega (arith, k .long))
-
-  free : ℕ
-  free = firstFree isHeld own
-
-  free-low : free < 16
-  unfolding free own
-  free-low = omega (arith, own-long, room-left isHeld own (omega (arith, own-long)))
-
   place : ℕ
-  place = flow * 16 + free
+  place = flow * placeCount + firstFree isHeld (placesOf placeCount flow (u .cells))
 
-  place-free : getD (u .cells) place freeCell .held ≡ false
-  unfolding place free own
-  place-free =
-      let f : getD own free freeCell .held ≡ false = first-is-free isHeld own freeCell (omega (arith, own-long, free-low)) in
-      rw (getD-take 16 (drop (flow * 16) (u .cells)) free freeCell free-low, getD-drop (flow * 16) (u .cells) free freeCell) at f
-
-  place-flow : place / 16 ≡ flow
-  unfolding place
-  place-flow = omega (arith, free-low)
-
-  place-low : place < length (u .cells)
-  unfolding place
-  place-low = omega (arith, free-low, k .long)
+  fits-in : flow * 16 + 16 ≤ length (u .cells)
+  fits-in = omega (arith, k .long)
 
   number : ℕ
   number = flowAt u flow .next
@@ -188,13 +153,11 @@ module _ (u : Urgent) (h : Cells) (k : Kept u h) (few : Few h) (flow : ℕ) (l :
   new-place = record { held = true; number = number; last = record { 0 = last } }
 
   set-in : (ask : Question) → countAt (holds ask) 0 (set (u .cells) place new-place) ≡ bit (ask flow number last) + countAt (holds ask) 0 (u .cells)
-  unfolding new-place
+  unfolding new-place place
   set-in ask =
-      let z : 0 + place ≡ place = omega arith in
-      let s = at-set (holds ask) 0 (u .cells) place new-place freeCell place-low in
-      let t : bit (holds ask (0 + place) (getD (u .cells) place freeCell)) ≡ 0 = rw place-free in
-      let v : bit (holds ask (0 + place) new-place) ≡ bit (ask flow number last) = rw (z, place-flow) in
-      omega (arith, s, t, v)
+      let free = free-unheld isHeld freeCell (u .cells) 16 flow fits-in room in
+      let own = free-flow isHeld freeCell (u .cells) 16 flow fits-in room in
+      rw own at (at-more (u .cells) place new-place freeCell (free-low isHeld freeCell (u .cells) 16 flow fits-in room) (holds ask) (rw free))
 
   new-cell : Cell
   new-cell = record { flow = flow; number = number; last = last; arrival = h .slot; deadline = deadlineIn (h .openings) flow }
@@ -202,11 +165,6 @@ module _ (u : Urgent) (h : Cells) (k : Kept u h) (few : Few h) (flow : ℕ) (l :
   new-waits : waits h new-cell ≡ true
   unfolding new-cell
   new-waits = rw (new-unsent, in-window)
-
-  and-true : (t s : Bool) → s ≡ true → bit (t && s) ≡ bit t
-  and-true true true e = refl
-  and-true true false e = absurd (false≢true e)
-  and-true false s e = refl
 
   and-false : (t s : Bool) → s ≡ false → bit (t && s) ≡ 0
   and-false true true e = absurd (true≢false e)
@@ -225,18 +183,14 @@ module _ (u : Urgent) (h : Cells) (k : Kept u h) (few : Few h) (flow : ℕ) (l :
       × (getD (set (u .flows) flow after-offer) f shutFlow .deadline ≡ deadlineIn (h .openings) f)
       × (getD (set (u .flows) flow after-offer) f shutFlow .next ≡ bit (eqb flow f) + acceptedOf h f)
   unfolding after-offer number
-  offer-flow f b = go (flow-set (u .flows) flow after-offer f (omega (arith, k .sixteen)))
-    where
-      go : ((f ≡ flow) × (getD (set (u .flows) flow after-offer) f shutFlow ≡ after-offer)) ⊎ ((f ≡ flow → ⊥) × (getD (set (u .flows) flow after-offer) f shutFlow ≡ getD (u .flows) f shutFlow))
-          → (getD (set (u .flows) flow after-offer) f shutFlow .opened ≡ openIn (h .openings) f)
-          × (getD (set (u .flows) flow after-offer) f shutFlow .deadline ≡ deadlineIn (h .openings) f)
-          × (getD (set (u .flows) flow after-offer) f shutFlow .next ≡ bit (eqb flow f) + acceptedOf h f)
-      go (inl e) =
-          rw (e .1, eq-eqb flow f (sym (e .0)), e .0) (sym is-open, k .deadlines flow (omega arith), fits ∙ omega (arith, k .next flow (omega arith)))
-      go (inr e) = rw (e .1, ne-eqb flow f (λ q. e .0 (sym q))) (k .openFlows f b, k .deadlines f b, omega (arith, k .next f b))
+  offer-flow f b =
+      set-cases (u .flows) flow after-offer shutFlow (omega (arith, k .sixteen)) f
+      (λ x. (x .opened ≡ openIn (h .openings) f) × (x .deadline ≡ deadlineIn (h .openings) f) × (x .next ≡ bit (eqb flow f) + acceptedOf h f))
+      (λ e. rw (eq-eqb flow f (sym e), e) (sym is-open, k .deadlines flow (omega arith), fits ∙ omega (arith, k .next flow (omega arith))))
+      (λ n. rw (ne-eqb flow f (λ q. n (sym q))) (k .openFlows f b, k .deadlines f b, omega (arith, k .next f b)))
 
   pub kept-offer : Kept (accepted u flow .lane) (noteOffer h flow (accepted u flow .answer))
-  unfolding count number last place free own new-place new-cell after-offer
+  unfolding count number last place new-place new-cell after-offer
   kept-offer =
       record {
         sixteen = length-set (u .flows) flow after-offer ∙ k .sixteen;
@@ -248,13 +202,13 @@ module _ (u : Urgent) (h : Cells) (k : Kept u h) (few : Few h) (flow : ℕ) (l :
         live = k .live;
         next = λ f b. offer-flow f b .2;
         numbered = (k .next flow (omega arith), omega (arith, k .time, k .deadlines flow (omega arith)), k .live flow is-open, k .numbered);
-        tied = λ ask. omega (arith, set-in ask, k .tied ask, and-true (ask flow number last) (waits h new-cell) new-waits);
+        tied = λ ask. omega (arith, set-in ask, k .tied ask, ap bit (and-holds (ask flow number last) (waits h new-cell) new-waits));
         gone = λ ask. omega (arith, k .gone ask, and-false (ask flow number) (wasSent (h .sent) flow number) new-unsent);
       }
 
   pub few-offer : Few (noteOffer h flow (accepted u flow .answer))
   unfolding count number last new-cell
-  few-offer f b = omega (arith, few f b, and-true (eqb flow f) (waits h new-cell) new-waits)
+  few-offer f b = omega (arith, few f b, ap bit (and-holds (eqb flow f) (waits h new-cell) new-waits))
 
   -- the accepted cell waits, in the window that the rules give it
   pub offer-waits : waits h (offeredCell u h flow) ≡ true

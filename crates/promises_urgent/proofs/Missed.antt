@@ -12,12 +12,13 @@ use Rattle.units.specs.Limits.{placeCount, slotLimit}
 use Rattle.places.specs.Places.{bit, count, flowOf}
 use Rattle.places.proofs.Count.{count-same, count-le, count-add}
 use Rattle.places.proofs.CountAt.{at-count}
+use Rattle.places.proofs.Tests.{eqb-swap}
 use Rattle.urgent.specs.declared.Cell.{Cell as Place}
 use Rattle.urgent.specs.declared.Urgent.{Urgent}
 use Rattle.urgent.specs.Lane.{freeCell, lastIs}
 use Rattle.promises_urgent.specs.Cells.{Cell, Gone, Cells, wasSent, waits, isMissed}
 use Rattle.promises_urgent.specs.Promised.{holds}
-use Rattle.promises_urgent.proofs.Numbers.{isCell, eqb-swap}
+use Rattle.promises_urgent.proofs.Numbers.{isCell}
 use Rattle.promises_urgent.proofs.Kept.{Kept}
 use Rattle.promises_urgent.proofs.Turned.{sentCells, this-waits, endCells}
 

@@ -4,7 +4,7 @@ use mathlib.Core.Bool.{Bool, true, false, _&&_, false≢true}
 use mathlib.Core.List.{List, [], _∷_}
 use Prim.Native.Nat.{ℕ, _+_, _≤_, _<_, zero-le}
 use native.Mathlib.Omega.{arith}
-use borrow.Author.Tests.{eqb-true, eqb-false, eq-eqb, ne-eqb}
+use borrow.Author.Tests.{eqb-true, eq-eqb}
 use lib.Dec.{eqb}
 use Rattle.places.specs.Places.{bit, count}
 use Rattle.promises_urgent.specs.Cells.{Cell}
@@ -53,10 +53,3 @@ at-most-one flow number (a ∷ rest) k = go (isCell flow number a) refl (at-most
         let n : a .number ≡ ofFlow flow rest = subst (λ (f : ℕ). a .number ≡ ofFlow f rest) (e .0) (k .0) in
         omega (arith, none-above flow number rest (k .3) (omega (arith, e .1)))
     go false p r = omega arith
-
-pub eqb-swap : (m n : ℕ) → eqb m n ≡ eqb n m
-eqb-swap m n = go (eqb m n) refl
-  where
-    go : (t : Bool) → eqb m n ≡ t → t ≡ eqb n m
-    go true p = sym (eq-eqb n m (sym (eqb-true m n p)))
-    go false p = sym (ne-eqb n m (λ q. eqb-false m n p (sym q)))

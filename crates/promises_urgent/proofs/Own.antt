@@ -16,11 +16,12 @@ use Rattle.places.specs.Places.{bit, count, flowOf}
 use Rattle.places.proofs.Count.{count-le, and-le}
 use Rattle.urgent.specs.declared.Cell.{Cell as Place}
 use Rattle.places.specs.Members.{Each}
+use Rattle.places.proofs.Tests.{eqb-swap}
 use Rattle.promises_urgent.specs.Plans.{Member, Apart, noWindow, Sending, Allowed}
 use Rattle.promises_urgent.specs.Cells.{Cell, noCell, Gone, Cells, noCells, wasSent, waits, windowOf, windows}
 use Rattle.promises_urgent.specs.Promised.{Numbered, indexOf, OwnPlan}
 use Rattle.places.proofs.Members.{none-passes, each-map, each-at}
-use Rattle.promises_urgent.proofs.Numbers.{isCell, is-cell, eqb-swap}
+use Rattle.promises_urgent.proofs.Numbers.{isCell, is-cell}
 use Rattle.promises_urgent.proofs.Turned.{sentCells, endCells}
 use Rattle.promises_urgent.proofs.Steps.{withCell, OneLess, waits-told, sent-before}
 

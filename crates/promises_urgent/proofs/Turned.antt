@@ -11,13 +11,15 @@ use lib.ListN.{length, getD, set, length-set, length-map}
 use Rattle.units.specs.Limits.{placeCount, slotLimit}
 use Rattle.places.specs.Places.{bit, count, countAt, flowOf, cleared, clearedAll}
 use Rattle.places.proofs.Count.{count-same, count-le, count-add, and-le, and-le-right, bit-split}
-use Rattle.places.proofs.CountAt.{at-set, at-le, at-map}
+use Rattle.places.proofs.CountAt.{at-le, at-map}
+use Rattle.places.proofs.Tests.{and-holds, eqb-self, eqb-swap}
+use Rattle.places.proofs.Stores.{at-less}
 use Rattle.urgent.specs.declared.Cell.{Cell as Place}
 use Rattle.urgent.specs.declared.Urgent.{Urgent}
 use Rattle.urgent.specs.Lane.{freeCell, lastIs}
 use Rattle.promises_urgent.specs.Cells.{Cell, Gone, Cells, wasSent, waits}
 use Rattle.promises_urgent.specs.Promised.{Question, holds, acceptedOf, waitingIn}
-use Rattle.promises_urgent.proofs.Numbers.{isCell, is-cell, at-most-one, eqb-swap}
+use Rattle.promises_urgent.proofs.Numbers.{isCell, is-cell, at-most-one}
 use Rattle.promises_urgent.proofs.Kept.{Kept, Few, waiting-most}
 
 -- ---- a cell is sent
@@ -41,15 +43,11 @@ module _ (u : Urgent) (h : Cells) (k : Kept u h) (place : ℕ) (c : Place) (low 
 
   set-out : (ask : Question) → countAt (holds ask) 0 (set (u .cells) place freeCell) + bit (ask-this ask) ≡ countAt (holds ask) 0 (u .cells)
   unfolding ask-this
-  set-out ask =
-      let z : 0 + place ≡ place = omega arith in
-      let s = at-set (holds ask) 0 (u .cells) place freeCell freeCell low in
-      let t : bit (holds ask (0 + place) (getD (u .cells) place freeCell)) ≡ bit (ask-this ask) = rw (z, there, held) in
-      omega (arith, s, t)
+  set-out ask = rw (there, held) at (at-less (u .cells) place freeCell freeCell low (holds ask) refl)
 
   this-true : ask-this this ≡ true
   unfolding ask-this this
-  this-true = rw (eq-eqb (flowOf placeCount place) (flowOf placeCount place) refl, eq-eqb (c .number) (c .number) refl)
+  this-true = rw (eqb-self (flowOf placeCount place), eqb-self (c .number))
 
   -- one waiting cell is it
   this-one : countAt (holds this) 0 (u .cells) ≡ 1
@@ -66,11 +64,6 @@ module _ (u : Urgent) (h : Cells) (k : Kept u h) (place : ℕ) (c : Place) (low 
         at-most-one (flowOf placeCount place) (c .number) (h .accepted) (k .numbered),
       )
 
-  and-true : (t s : Bool) → s ≡ true → bit (t && s) ≡ bit t
-  and-true true true e = refl
-  and-true true false e = absurd (false≢true e)
-  and-true false s e = refl
-
   -- of the cells that a question is asked of, it is the one that leaves
   both : Question → Question
   both ask f n l = ask f n l && this f n l
@@ -85,7 +78,7 @@ module _ (u : Urgent) (h : Cells) (k : Kept u h) (place : ℕ) (c : Place) (low 
         this-one,
         set-out this,
         set-out (both ask),
-        and-true (ask-this ask) (ask-this this) this-true,
+        ap bit (and-holds (ask-this ask) (ask-this this) this-true),
         at-le (holds (both ask)) (holds this) (λ j x. go (x .held) (ask (flowOf placeCount j) (x .number) (x .last .0)) (this (flowOf placeCount j) (x .number) (x .last .0))) 0
             (set (u .cells) place freeCell),
       )
