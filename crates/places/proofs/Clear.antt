@@ -1,13 +1,13 @@
 -- Clearing the places that pass a test: each step of a pass over them that also counts them.
-use mathlib.Core.Path.{_≡_, refl, sym, ap, _∙_}
-use mathlib.Core.Bool.{Bool, true, false, cond}
-use mathlib.Core.List.{List, [], _∷_, _++_, map, map-append, append-nil}
+use mathlib.Core.Path.{_≡_, refl, _∙_}
+use mathlib.Core.Bool.{Bool, true, false}
+use mathlib.Core.List.{List, [], _∷_, _++_, map-append, append-nil}
 use Prim.Native.Nat.{ℕ, _+_, _≤_, _<_}
 use native.Mathlib.Numerals.{add-one}
 use native.Mathlib.Omega.{arith}
 use lib.ListN.{length, getD, set, take, drop, length-take, length-map, drop-of-length-le}
 use lib.Seq.{drop-cons, take-suc, take-all, append-snoc, set-at, getD-at}
-use Rattle.places.specs.Places.{bit, count, cleared, clearedAll}
+use Rattle.places.specs.Places.{count, cleared, clearedAll}
 use Rattle.places.proofs.Count.{count-take}
 
 module _ {A : Type 0} (gone : A → Bool) (free d : A) (n : ℕ) where

@@ -9,7 +9,7 @@ use native.Mathlib.Omega.{arith}
 use lib.ListN.{length, getD, drop, drop-of-length-le}
 use lib.Seq.{drop-cons}
 use Rattle.places.specs.Places.{count}
-use Rattle.places.specs.Choice.{Key, comesBefore, Choice, nothing, at, better, least, leastHeld, placeOr, Leads}
+use Rattle.places.specs.Choice.{Key, comesBefore, Choice, nothing, at, better, least, leastHeld, Leads}
 use Rattle.places.proofs.Count.{count-none, count-some}
 use Rattle.places.proofs.Order.{not-self, not-earlier}
 

@@ -1,10 +1,6 @@
 -- The one proof of the promises.
-use mathlib.Core.Path.{_≡_, refl}
-use mathlib.Core.List.{List}
-use Prim.Native.Nat.{ℕ, _+_, _%_, _<_}
 use native.Mathlib.Omega.{arith}
 use Rattle.units.proofs.Charges.{product-rule}
-use Rattle.units.specs.Radio.{slotsPassed}
 use Rattle.admission.proofs.Published.{published}
 use Rattle.station.proofs.Laws.{refused-first, refused-same}
 use Rattle.promises_urgent.proofs.Account.{conserved, few-numbers, sends-earliest}
@@ -12,7 +8,6 @@ use Rattle.promises_urgent.proofs.Own.{own-plan}
 use Rattle.promises_urgent.proofs.Optimal.{none-better}
 use Rattle.promises_urgent.proofs.Reason.{explained}
 use Rattle.promises_fair.proofs.Account.{as-published, served-in-order, ends-and-numbers, never-falls}
-use Rattle.station.specs.declared.Call.{Call}
 use Rattle.promises.specs.Run.{fresh, run}
 use Rattle.promises.specs.Promises.{Promises}
 use Rattle.promises.proofs.Run.{run-on, good-run, fair-run, refused-as-told, urgent-only, fair-only}

@@ -1,6 +1,6 @@
 -- What holds of a fresh station and is kept by each call holds after every list of calls; and the lanes apart over whole lists.
 use mathlib.Core.Path.{_≡_, refl, ap₂, _∙_}
-use mathlib.Core.Bool.{Bool, true, false, not, cond}
+use mathlib.Core.Bool.{Bool, true, false, cond}
 use mathlib.Core.List.{List, [], _∷_, _++_}
 use borrow.Author.Tests.{not-true, not-false}
 use Rattle.station.specs.declared.Station.{Station}
@@ -10,7 +10,6 @@ use Rattle.station.specs.declared.Call.the-variants.{OpenUrgent, OpenFair, Offe
 use Rattle.station.specs.Calls.{freshStation, callOf}
 use Rattle.station.specs.Laws.{isUrgent}
 use Rattle.station.proofs.Laws.{lanes-apart}
-use Rattle.promises_urgent.specs.Cells.{Cells}
 use Rattle.units.specs.Refusals.{firstOf}
 use Rattle.station.specs.Answers.{refusalIn}
 use Rattle.promises_urgent.proofs.Account.{refused-as-told as urgent-told}

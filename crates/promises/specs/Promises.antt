@@ -1,6 +1,6 @@
 -- The promises, each a field of one record, over every list of calls from a fresh station unless it says otherwise.
 use mathlib.Core.Path.{_≡_}
-use mathlib.Core.Bool.{Bool, true, false, not}
+use mathlib.Core.Bool.{Bool, not}
 use mathlib.Core.List.{List, _++_}
 use mathlib.Core.Option.{some}
 use Prim.Native.Nat.{ℕ, _+_, _%_, _<_}
@@ -9,7 +9,6 @@ use Rattle.units.specs.Charges.{ProductRule}
 use Rattle.units.specs.Radio.{slotsPassed}
 use Rattle.units.specs.declared.Refusal.{Refusal}
 use Rattle.admission.specs.Published.{Published}
-use Rattle.promises_urgent.specs.Cells.{Cells}
 use Rattle.promises_urgent.specs.Promised.{OnTime, Accounted, SendsEarliest, Numbered, FewNumbers, OwnPlan, NoneBetter, Explained}
 use Rattle.promises_urgent.specs.Refused.{openingTold as urgentOpening, offeringTold as cellOffering, turnTold}
 use Rattle.promises_fair.specs.Promised.{AsPublished, ServedInOrder, EndsAndNumbers, NeverFalls}

@@ -1,8 +1,6 @@
 -- A list of calls from a fresh station: what the station has come to, and what the calls and replies alone tell.
 use mathlib.Core.Bool.{Bool, true, false, cond}
 use mathlib.Core.List.{List, [], _∷_}
-use Rattle.urgent.specs.declared.Answer.{Answer as UrgentAnswer}
-use Rattle.fair.specs.declared.Answer.{Answer as FairAnswer}
 use Rattle.promises_urgent.specs.Cells.{Cells, noCells, noteOpening, noteOffer, noteTurn}
 use Rattle.promises_fair.specs.Packets.{Packets, noPackets, noteOther, noteService}
 use Rattle.promises_fair.specs.Packets.{noteOpening as noteFairOpening, noteOffer as notePacket}

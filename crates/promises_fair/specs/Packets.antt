@@ -1,7 +1,7 @@
 -- What has become of the fair lane's packets, read off the calls and their answers alone. Each list has the newest first.
 use mathlib.Core.Bool.{Bool, true, false, not, cond, _&&_, _||_}
 use mathlib.Core.List.{List, [], _∷_}
-use Prim.Native.Nat.{ℕ, suc, _+_, max}
+use Prim.Native.Nat.{ℕ, suc, max}
 use lib.Dec.{eqb}
 use Rattle.units.specs.Charges.{chargeOf}
 use Rattle.places.specs.Places.{count}

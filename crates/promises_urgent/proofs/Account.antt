@@ -1,32 +1,28 @@
 -- What the kept invariant says of the account: U1 and S4, and what an open turn's choice is among the waiting cells (U2).
-use mathlib.Core.Path.{_≡_, refl, sym, ap, _∙_, subst}
-use mathlib.Core.Logic.{_⊎_, inl, inr}
-use mathlib.Core.Bool.{Bool, true, false, not, cond, _&&_, true≢false, false≢true}
-use mathlib.Core.List.{List, [], _∷_}
-use mathlib.Core.Option.{Option, none, some}
-use Prim.Native.Nat.{ℕ, zero, suc, _+_, _*_, _≤_, _<_}
+use mathlib.Core.Path.{_≡_, refl, sym, _∙_, subst}
+use mathlib.Core.Bool.{Bool, true, false, not, cond, _&&_, false≢true}
+use mathlib.Core.Option.{none, some}
+use Prim.Native.Nat.{ℕ, _+_, _<_}
 use native.Mathlib.Omega.{arith}
-use borrow.Author.Tests.{eqb-true, eq-eqb, leb-true, leb-false, ltb-true, ltb-false, lt-ltb, le-ltb, le-leb, lt-leb}
+use borrow.Author.Tests.{eqb-true, eq-eqb, leb-true, leb-false, lt-ltb, le-ltb}
 use lib.Dec.{leb, ltb, eqb}
-use lib.ListN.{length, getD, set}
-use Rattle.units.specs.Limits.{placeCount, slotLimit, badDeadline}
+use lib.ListN.{getD, set}
+use Rattle.units.specs.Limits.{placeCount, slotLimit}
 use Rattle.units.specs.Refusals.{firstOf}
 use Rattle.units.proofs.Refusals.{after-flow}
 use Rattle.units.specs.declared.Refusal.the-variants.{SlotsUsedUp}
-use Rattle.places.specs.Places.{bit, count, countAt, flowOf}
-use Rattle.places.specs.Choice.{Key, comesBefore, Choice, nothing, at, leastHeld, Leads}
-use Rattle.places.proofs.Count.{count-add, and-le, bit-split}
+use Rattle.places.specs.Places.{bit, count, flowOf}
+use Rattle.places.specs.Choice.{comesBefore, Choice, nothing, at, leastHeld, Leads}
+use Rattle.places.proofs.Count.{count-add, bit-split}
 use Rattle.places.proofs.CountAt.{at-none, at-here}
-use Rattle.places.proofs.Order.{rank-order}
 use Rattle.urgent.specs.declared.Cell.{Cell as Place}
 use Rattle.urgent.specs.declared.Urgent.{Urgent}
 use Rattle.urgent.specs.declared.Answer.the-variants.{Sent}
-use Rattle.urgent.specs.Lane.{freeCell, isHeld, flowAt, keyOf, lastIs, waitingOf}
+use Rattle.urgent.specs.Lane.{freeCell, isHeld, keyOf, lastIs, waitingOf}
 use Rattle.urgent.specs.Calls.{unless, chosen, turned, turnOf}
 use Rattle.urgent.proofs.Laws.{sends-first, refused-first}
-use Rattle.places.specs.Members.{Each, Some}
-use Rattle.promises_urgent.specs.Cells.{Cell, noCell, Gone, Cells, openIn, deadlineIn, wasSent, waits, isMissed}
-use Rattle.promises_urgent.specs.Promised.{Question, holds, acceptedOf, sentOf, missedOf, waitingIn, Accounted, cellKey, Earliest, SendsEarliest, FewNumbers}
+use Rattle.promises_urgent.specs.Cells.{Cell, Cells, wasSent, waits, isMissed}
+use Rattle.promises_urgent.specs.Promised.{Question, holds, acceptedOf, sentOf, missedOf, cellKey, Earliest, SendsEarliest, FewNumbers}
 use Rattle.promises_urgent.specs.Refused.{RefusedAsTold}
 use Rattle.places.proofs.Members.{none-passes, some-passes, each-map, some-map}
 use Rattle.promises_urgent.proofs.Kept.{Kept, Few, waiting-told, waiting-most}

@@ -1,23 +1,23 @@
 -- All that the calls keep, in one record, and that each call of the urgent lane keeps it.
-use mathlib.Core.Path.{_≡_, refl, sym, ap, _∙_}
-use mathlib.Core.Bool.{Bool, true, false, cond, _&&_, false≢true}
-use mathlib.Core.List.{List, [], _∷_}
-use Prim.Native.Nat.{ℕ, suc, _+_, _≤_, _<_, zero-le}
+use mathlib.Core.Path.{_≡_, refl, ap}
+use mathlib.Core.Bool.{Bool, true, false, _&&_, false≢true}
+use mathlib.Core.List.{List, _∷_}
+use Prim.Native.Nat.{ℕ, _+_, _<_, zero-le}
 use native.Mathlib.Omega.{arith}
 use lib.Dec.{leb, ltb}
-use lib.ListN.{length, getD, set, getD-replicate}
-use Rattle.units.specs.Limits.{placeCount, slotLimit}
+use lib.ListN.{set, getD-replicate}
+use Rattle.units.specs.Limits.{slotLimit}
 use Rattle.places.specs.Places.{count}
 use Rattle.places.specs.Choice.{Choice, nothing, at, leastHeld, Leads}
 use Rattle.places.proofs.CountAt.{at-replicate}
 use Rattle.urgent.specs.declared.Cell.{Cell as Place}
 use Rattle.urgent.specs.declared.Flow.{Flow}
 use Rattle.urgent.specs.declared.Urgent.{Urgent}
-use Rattle.urgent.specs.Lane.{freeCell, isHeld, shutFlow, freshLane, flowAt, keyOf, lastIs, waitingOf}
+use Rattle.urgent.specs.Lane.{freeCell, isHeld, shutFlow, freshLane, keyOf, lastIs}
 use Rattle.urgent.specs.Calls.{opened, openOf, accepted, offerOf, chosen, turned, turnOf}
 use Rattle.urgent.proofs.Cases.{open-cases, offer-cases, turn-cases}
 use Rattle.urgent.proofs.Laws.{sends-first}
-use Rattle.promises_urgent.specs.Cells.{Cell, Cells, noCells, openIn, deadlineIn, wasSent, waits, isMissed, noteOpening, noteOffer, noteTurn}
+use Rattle.promises_urgent.specs.Cells.{Cell, Cells, noCells, openIn, deadlineIn, waits, isMissed, noteOpening, noteOffer, noteTurn}
 use Rattle.promises_urgent.specs.Promised.{holds}
 use Rattle.promises_urgent.proofs.Kept.{Kept, Few, kept-open, kept-offer, few-offer, offeredCell, offer-waits, offer-window}
 use Rattle.promises_urgent.proofs.Turned.{without, goneFrom, sentCells, endLane, endCells, kept-sent, kept-end, few-turn, waits-less, this-waits}

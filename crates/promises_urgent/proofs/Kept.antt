@@ -1,17 +1,13 @@
 -- What every call keeps: the lane is what the calls and answers tell. Time, flows and numbers agree; the held places are the
 -- waiting cells; and the cells sent are accepted cells. Here: an opening and an accepted offer keep it.
-use mathlib.Core.Path.{_≡_, refl, sym, ap, _∙_, subst}
-use mathlib.Core.Logic.{_⊎_, inl, inr}
-use mathlib.Core.Bool.{Bool, true, false, not, cond, _&&_, _||_, true≢false, false≢true}
+use mathlib.Core.Path.{_≡_, refl, sym, ap, _∙_}
+use mathlib.Core.Bool.{Bool, true, false, cond, _&&_, _||_, true≢false}
 use mathlib.Core.List.{List, [], _∷_}
-use Prim.Native.Nat.{ℕ, zero, suc, _+_, _-_, _*_, _/_, _%_, _^_, _≤_, _<_, zero-le}
-use native.Mathlib.Decide.{ℕ-discrete}
-use native.Mathlib.Nat.{add-mul-div-right, div-eq-of-lt}
+use Prim.Native.Nat.{ℕ, _+_, _-_, _*_, _%_, _^_, _≤_, _<_}
 use native.Mathlib.Omega.{arith}
-use borrow.Author.Tests.{eqb-true, eqb-false, eq-eqb, ne-eqb, le-leb}
-use lib.Dec.{leb, ltb, eqb}
-use lib.ListN.{length, getD, set, drop, length-set}
-use lib.Seq.{getD-set-same, getD-set-other, getD-take, getD-drop}
+use borrow.Author.Tests.{eq-eqb, ne-eqb, le-leb}
+use lib.Dec.{leb, eqb}
+use lib.ListN.{length, getD, set, length-set}
 use Rattle.units.specs.Limits.{placeCount, slotLimit, badDeadline}
 use Rattle.units.proofs.Limits.{inside}
 use Rattle.places.specs.Places.{bit, count, countAt, firstFree, placesOf}
@@ -25,9 +21,9 @@ use Rattle.urgent.specs.declared.Flow.{Flow}
 use Rattle.urgent.specs.declared.Urgent.{Urgent}
 use Rattle.urgent.specs.Lane.{freeCell, isHeld, shutFlow, flowAt, waitingOf}
 use Rattle.urgent.specs.Calls.{opened, accepted, lastSlot}
-use Rattle.promises_urgent.specs.Cells.{Cell, Opening, Gone, Cells, openIn, deadlineIn, wasSent, waits, noteOpening, noteOffer}
+use Rattle.promises_urgent.specs.Cells.{Cell, Gone, Cells, openIn, deadlineIn, wasSent, waits, noteOpening, noteOffer}
 use Rattle.promises_urgent.specs.Promised.{Question, holds, acceptedOf, waitingIn, Numbered}
-use Rattle.promises_urgent.proofs.Numbers.{isCell, is-cell, ofFlow, none-above}
+use Rattle.promises_urgent.proofs.Numbers.{isCell, none-above}
 
 pub record Kept (u : Urgent) (h : Cells) : Type 0 where
   pub sixteen : length (u .flows) ≡ 16

@@ -1,23 +1,22 @@
 -- The missed counts that turns answer add up to the missed cells: a turn's end misses the waiting cells whose last slot it was,
 -- and a cell that is sent is not missed.
-use mathlib.Core.Path.{_≡_, refl, sym, ap, _∙_}
+use mathlib.Core.Path.{_≡_, refl}
 use mathlib.Core.Bool.{Bool, true, false, not, _&&_, _||_, false≢true}
-use mathlib.Core.List.{List, [], _∷_}
+use mathlib.Core.List.{List}
 use Prim.Native.Nat.{ℕ, suc, _+_, _≤_, _<_, zero-le}
 use native.Mathlib.Omega.{arith}
 use borrow.Author.Tests.{eqb-true, eqb-false, leb-true, leb-false, ltb-true, ltb-false, le-ltb}
 use lib.Dec.{leb, ltb, eqb}
 use lib.ListN.{length, getD}
-use Rattle.units.specs.Limits.{placeCount, slotLimit}
+use Rattle.units.specs.Limits.{placeCount}
 use Rattle.places.specs.Places.{bit, count, flowOf}
-use Rattle.places.proofs.Count.{count-same, count-le, count-add}
+use Rattle.places.proofs.Count.{count-le, count-add}
 use Rattle.places.proofs.CountAt.{at-count}
 use Rattle.places.proofs.Tests.{eqb-swap}
 use Rattle.urgent.specs.declared.Cell.{Cell as Place}
 use Rattle.urgent.specs.declared.Urgent.{Urgent}
 use Rattle.urgent.specs.Lane.{freeCell, lastIs}
-use Rattle.promises_urgent.specs.Cells.{Cell, Gone, Cells, wasSent, waits, isMissed}
-use Rattle.promises_urgent.specs.Promised.{holds}
+use Rattle.promises_urgent.specs.Cells.{Cell, Cells, wasSent, waits, isMissed}
 use Rattle.promises_urgent.proofs.Numbers.{isCell}
 use Rattle.promises_urgent.proofs.Kept.{Kept}
 use Rattle.promises_urgent.proofs.Turned.{sentCells, this-waits, endCells}

@@ -1,24 +1,23 @@
 -- No plan sends more cells than the lane. What each call keeps: for each slot e from now on, the accepted cells that a plan has used
 -- before now, or whose last slot is e or later, are at most the cells sent and the waiting cells whose last slot is e or later.
-use mathlib.Core.Path.{_≡_, refl, sym, ap, _∙_, subst}
-use mathlib.Core.Logic.{_⊎_, inl, inr}
+use mathlib.Core.Path.{_≡_, refl, sym, ap, _∙_}
+use mathlib.Core.Logic.{inl, inr}
 use mathlib.Core.Bool.{Bool, true, false, not, _&&_}
-use mathlib.Core.List.{List, [], _∷_, map}
-use Prim.Native.Nat.{ℕ, zero, suc, _+_, _-_, _≤_, _<_, zero-le}
+use mathlib.Core.List.{List, [], _∷_}
+use Prim.Native.Nat.{ℕ, suc, _+_, _≤_, _<_, zero-le}
 use native.Mathlib.Decide.{decLt}
 use native.Mathlib.Omega.{arith}
 use borrow.Author.Tests.{leb-true, leb-false, le-leb, lt-leb, lt-ltb}
 use lib.Dec.{leb, ltb}
-use lib.ListN.{length, getD, length-map, List·getD-eq-default}
+use lib.ListN.{length, getD, List·getD-eq-default}
 use Rattle.places.specs.Places.{bit, count}
 use Rattle.places.proofs.Count.{count-same, count-cover}
-use Rattle.places.specs.Members.{Each}
-use Rattle.promises_urgent.specs.Plans.{Member, Window, noWindow, Sending, Allowed, Plan}
+use Rattle.promises_urgent.specs.Plans.{Member, Window, noWindow, Allowed}
 use Rattle.promises_urgent.specs.Cells.{Cell, Gone, Cells, noCells, wasSent, waits, windowOf, windows}
-use Rattle.promises_urgent.specs.Promised.{Numbered, NoneBetter}
+use Rattle.promises_urgent.specs.Promised.{NoneBetter}
 use Rattle.places.proofs.Members.{each-map}
 use Rattle.promises_urgent.proofs.Turned.{endCells}
-use Rattle.promises_urgent.proofs.Uses.{Use, unused, inSlot, not-used, size, uses, uses-length, use-told, uses-size, uses-apart}
+use Rattle.promises_urgent.proofs.Uses.{Use, unused, inSlot, not-used, uses, uses-length, use-told, uses-size, uses-apart}
 use Rattle.promises_urgent.proofs.Counted.{counted, step-none, step-all, step-one, size-counted, counted-new, counted-none}
 
 -- a plan that may use slots to come

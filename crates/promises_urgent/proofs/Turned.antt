@@ -1,12 +1,12 @@
 -- A turn keeps it too, in two steps: the cell that is sent leaves its place and is told as sent; then the cells whose last slot it
 -- was leave theirs, and time goes on.
 use mathlib.Core.Path.{_≡_, refl, sym, ap, _∙_}
-use mathlib.Core.Bool.{Bool, true, false, not, cond, _&&_, _||_, true≢false, false≢true}
-use mathlib.Core.List.{List, [], _∷_}
-use Prim.Native.Nat.{ℕ, suc, _+_, _*_, _≤_, _<_, zero-le}
+use mathlib.Core.Bool.{Bool, true, false, not, cond, _&&_, _||_}
+use mathlib.Core.List.{List, _∷_}
+use Prim.Native.Nat.{ℕ, suc, _+_, _≤_, _<_, zero-le}
 use native.Mathlib.Omega.{arith}
-use borrow.Author.Tests.{eqb-true, eqb-false, eq-eqb, le-leb, lt-leb, leb-true, leb-false}
-use lib.Dec.{leb, ltb, eqb}
+use borrow.Author.Tests.{eqb-true, eqb-false, le-leb, lt-leb, leb-true, leb-false}
+use lib.Dec.{leb, eqb}
 use lib.ListN.{length, getD, set, length-set, length-map}
 use Rattle.units.specs.Limits.{placeCount, slotLimit}
 use Rattle.places.specs.Places.{bit, count, countAt, flowOf, cleared, clearedAll}
@@ -18,8 +18,8 @@ use Rattle.urgent.specs.declared.Cell.{Cell as Place}
 use Rattle.urgent.specs.declared.Urgent.{Urgent}
 use Rattle.urgent.specs.Lane.{freeCell, lastIs}
 use Rattle.promises_urgent.specs.Cells.{Cell, Gone, Cells, wasSent, waits}
-use Rattle.promises_urgent.specs.Promised.{Question, holds, acceptedOf, waitingIn}
-use Rattle.promises_urgent.proofs.Numbers.{isCell, is-cell, at-most-one}
+use Rattle.promises_urgent.specs.Promised.{Question, holds, acceptedOf}
+use Rattle.promises_urgent.proofs.Numbers.{isCell, at-most-one}
 use Rattle.promises_urgent.proofs.Kept.{Kept, Few, waiting-most}
 
 -- ---- a cell is sent

@@ -1,21 +1,16 @@
 -- A plan as a use for each cell, in the cells' order: its size, and how many cells it has used before slot t or have a last slot of
 -- e or later. From one slot to the next that count grows by at most one, and not at all where the plan leaves the slot alone.
 use mathlib.Core.Path.{_≡_, refl, sym, ap, _∙_, subst}
-use mathlib.Core.Logic.{_⊎_, inl, inr}
-use mathlib.Core.Bool.{Bool, true, false, _||_, false≢true}
+use mathlib.Core.Logic.{inl, inr}
 use mathlib.Core.List.{List, [], _∷_, map}
-use Prim.Native.Nat.{ℕ, zero, suc, _+_, _≤_, _<_, zero-le}
-use native.Mathlib.Nat.{le-refl, not-suc-le-zero}
+use Prim.Native.Nat.{ℕ, zero, suc, _<_}
+use native.Mathlib.Nat.{not-suc-le-zero}
 use native.Mathlib.Decide.{ℕ-discrete}
 use native.Mathlib.Omega.{arith}
-use borrow.Author.Tests.{lt-ltb, le-ltb, le-leb, ltb-true, leb-true}
-use lib.Dec.{leb, ltb}
-use lib.ListN.{length, getD, set, replicate, length-set, length-replicate, getD-replicate, List·getD-eq-default}
+use lib.ListN.{length, getD, set, replicate, length-set, length-replicate, getD-replicate}
 use lib.Seq.{getD-set-same, getD-set-other}
-use Rattle.places.specs.Places.{bit}
-use Rattle.places.proofs.Count.{bit-le-one}
 use Rattle.places.specs.Members.{Each}
-use Rattle.promises_urgent.specs.Plans.{Member, Apart, Window, noWindow, Sending, Allowed}
+use Rattle.promises_urgent.specs.Plans.{Member, Apart, Sending}
 
 -- what a plan does with a cell
 pub data Use : Type 0 where

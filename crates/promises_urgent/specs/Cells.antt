@@ -3,10 +3,9 @@ use mathlib.Core.Bool.{Bool, true, false, not, cond, _&&_, _||_}
 use mathlib.Core.List.{List, [], _∷_, map}
 use Prim.Native.Nat.{ℕ, suc, _+_, _-_}
 use lib.Dec.{leb, ltb, eqb}
-use Rattle.places.specs.Places.{count}
 use Rattle.urgent.specs.declared.Answer.{Answer}
 use Rattle.urgent.specs.declared.Answer.the-variants.{Refused, Opened, Accepted, Sent, Idle}
-use Rattle.promises_urgent.specs.Plans.{Window, Sending}
+use Rattle.promises_urgent.specs.Plans.{Window}
 
 -- an opening that was answered ok
 pub record Opening : Type 0 where

@@ -1,15 +1,11 @@
 -- The promises of the urgent lane, each as a statement about a lane and what the calls and answers so far tell of its cells.
 use mathlib.Core.Path.{_≡_}
-use mathlib.Core.Bool.{Bool, true, false, not, cond, _&&_}
+use mathlib.Core.Bool.{Bool, true, false, cond, _&&_}
 use mathlib.Core.List.{List, [], _∷_, map}
-use mathlib.Core.Option.{Option, none, some}
-use Prim.Native.Nat.{ℕ, suc, _+_, _-_, _*_, _≤_, _<_}
-use lib.Dec.{leb, ltb, eqb}
+use Prim.Native.Nat.{ℕ, suc, _+_, _*_, _≤_, _<_}
+use lib.Dec.{eqb}
 use lib.ListN.{length, getD}
-use Rattle.units.specs.Limits.{placeCount, slotLimit, noSuchFlow, badDeadline}
-use Rattle.units.specs.Refusals.{Ground, firstOf}
-use Rattle.units.specs.declared.Refusal.{Refusal}
-use Rattle.units.specs.declared.Refusal.the-variants.{NoSuchFlow, NotOpen, AlreadyOpen, BeyondLimit, PlacesFull, SlotsUsedUp}
+use Rattle.units.specs.Limits.{placeCount, slotLimit}
 use Rattle.places.specs.Places.{count, countAt, flowOf}
 use Rattle.places.specs.Choice.{Key, comesBefore}
 use Rattle.urgent.specs.declared.Urgent.{Urgent}
@@ -17,10 +13,10 @@ use Rattle.urgent.specs.declared.Cell.{Cell as Place}
 use Rattle.urgent.specs.declared.Answer.{Answer}
 use Rattle.urgent.specs.declared.Answer.the-variants.{Refused, Opened, Accepted, Sent, Idle}
 use Rattle.urgent.specs.Lane.{flowAt, waitingOf}
-use Rattle.urgent.specs.Calls.{openOf, offerOf, turnOf}
+use Rattle.urgent.specs.Calls.{turnOf}
 use Rattle.places.specs.Members.{Each, Some}
 use Rattle.promises_urgent.specs.Plans.{Sending, Plan, Overloaded}
-use Rattle.promises_urgent.specs.Cells.{Cell, noCell, Gone, Cells, openIn, deadlineIn, wasSent, waits, isMissed, windowOf, windows}
+use Rattle.promises_urgent.specs.Cells.{Cell, noCell, Gone, Cells, waits, isMissed, windowOf, windows}
 
 -- U0: the lane's next slot is the number of turns answered and not refused.
 abbrev pub OnTime : Urgent → Cells → Type 0

@@ -1,6 +1,6 @@
 -- The station's laws, from the lanes'.
 use mathlib.Core.Path.{_≡_, refl, ap}
-use mathlib.Core.Bool.{Bool, true, false, true≢false, false≢true}
+use mathlib.Core.Bool.{true, false, true≢false, false≢true}
 use Rattle.urgent.specs.declared.Urgent.{Urgent as UrgentLane}
 use Rattle.fair.specs.declared.Fair.{Fair as FairLane}
 use Rattle.urgent.specs.Calls.{openOf as openUrgentOf, offerOf as offerCellOf, turnOf}

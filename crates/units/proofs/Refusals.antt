@@ -2,13 +2,12 @@
 use mathlib.Core.Path.{_≡_, refl, ap}
 use mathlib.Core.Bool.{Bool, true, false, cond}
 use mathlib.Core.List.{List, _∷_}
-use mathlib.Core.Option.{Option, none, some}
+use mathlib.Core.Option.{some}
 use Prim.Native.Nat.{ℕ, _≤_}
 use borrow.Author.Tests.{ltb-false}
 use lib.Dec.{ltb}
 use Rattle.units.specs.Limits.{noSuchFlow}
 use Rattle.units.specs.Refusals.{Ground, firstOf}
-use Rattle.units.specs.declared.Refusal.{Refusal}
 use Rattle.units.specs.declared.Refusal.the-variants.{NoSuchFlow}
 
 pub after-flow : (flow : ℕ) (xs ys : List Ground) → (flow ≤ 15 → xs ≡ ys)

@@ -1,23 +1,22 @@
 -- Each case of what a call gives, from the tests that lead to it.
-use mathlib.Core.Path.{_≡_, refl, sym, ap, _∙_}
-use mathlib.Core.Bool.{Bool, true, false, not, cond}
+use mathlib.Core.Path.{_≡_}
+use mathlib.Core.Bool.{Bool, true, false, not}
 use mathlib.Core.List.{List}
 use Prim.Native.Nat.{ℕ, _+_, _-_, _*_, _%_, _/_, _^_, _≤_, _<_}
 use native.Mathlib.Omega.{arith}
-use borrow.Author.Tests.{lt-ltb, le-ltb, le-leb, lt-leb, not-true, not-false}
-use lib.ListN.{length, getD, set, take, drop}
-use lib.Seq.{set-out}
+use borrow.Author.Tests.{lt-ltb, le-ltb, le-leb, lt-leb}
+use lib.ListN.{length, getD, set}
 use Rattle.units.specs.Limits.{placeCount, slotLimit, badDeadline}
 use Rattle.units.specs.Refusals.{firstOf}
 use Rattle.units.specs.declared.Refusal.the-variants.{NoSuchFlow, NotOpen, AlreadyOpen, BeyondLimit, PlacesFull, SlotsUsedUp}
 use Rattle.places.specs.Places.{count, placesOf, firstFree, clearedAll}
-use Rattle.places.specs.Choice.{Choice, nothing, at, leastHeld}
+use Rattle.places.specs.Choice.{nothing, at}
 use Rattle.places.proofs.Free.{part-full, part-room}
 use Rattle.urgent.specs.declared.Cell.{Cell}
 use Rattle.urgent.specs.declared.Urgent.{Urgent}
 use Rattle.urgent.specs.declared.Answer.the-variants.{Accepted, Sent, Idle}
-use Rattle.urgent.specs.Lane.{freeCell, isHeld, flowAt, keyOf, lastIs}
-use Rattle.urgent.specs.Calls.{refused, opened, openOf, lastSlot, offerOf, chosen, turnOf}
+use Rattle.urgent.specs.Lane.{freeCell, isHeld, flowAt, lastIs}
+use Rattle.urgent.specs.Calls.{refused, opened, openOf, offerOf, chosen, turnOf}
 
 module _ (u : Urgent) (flow deadline : ℕ) where
   pub open-1 : 15 < flow → refused u NoSuchFlow ≡ openOf u flow deadline

@@ -1,11 +1,11 @@
 -- What each call of the urgent lane gives, over every state.
-use mathlib.Core.Bool.{Bool, true, false, cond}
+use mathlib.Core.Bool.{Bool, true, cond}
 use mathlib.Core.List.{List}
 use mathlib.Core.Option.{Option, none, some}
 use Prim.Native.Nat.{ℕ, _+_, _-_, _*_, _%_, _^_}
 use lib.ListN.{set}
 use Rattle.units.specs.Limits.{placeCount}
-use Rattle.units.specs.Refusals.{Ground, firstOf}
+use Rattle.units.specs.Refusals.{firstOf}
 use Rattle.units.specs.declared.Refusal.{Refusal}
 use Rattle.places.specs.Places.{count, placesOf, flowOf, firstFree, clearedAll}
 use Rattle.places.specs.Choice.{Choice, nothing, at, leastHeld}

@@ -1,9 +1,7 @@
 -- `units::charge` meets its contract: a good weight, less one, is a place of the table.
 use borrow.Author.Needs.{needs}
-use mathlib.Core.Path.{_≡_, sym, _∙_}
-use mathlib.Core.Bool.{false}
+use mathlib.Core.Path.{sym, _∙_}
 use native.Mathlib.Omega.{arith}
-use Rattle.units.specs.Limits.{badWeight}
 use Rattle.units.proofs.Limits.{inside}
 use Rattle.units.proofs.charge.Statement.{statement}
 use Rattle.units.proofs.charge.Tie as tie

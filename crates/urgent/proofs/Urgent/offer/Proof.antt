@@ -1,6 +1,6 @@
 -- `Urgent::offer` meets its contract. The loop goes from the flow's last place to its first. Its invariant: k is the first
 -- free place from i on, or 16. The measure is i.
-use mathlib.Core.Path.{_≡_, refl, sym, _∙_}
+use mathlib.Core.Path.{_≡_, sym, _∙_}
 use Prim.Native.Nat.{_+_, _*_, _≤_}
 use native.Mathlib.Omega.{arith}
 use borrow.Author.Tests.{ltb-false}
