@@ -1,24 +1,22 @@
--- The decimal text of a number: one digit more at its end, the digits that `io::decimal` writes, and reading it back.
+-- The decimal text of a number: one digit more at its end, reading it back, and how long it is.
 use mathlib.Core.Path.{_≡_, refl, sym, _∙_, ap}
-use mathlib.Core.Bool.{Bool, true, false, cond}
 use mathlib.Core.List.{List, [], _∷_, _++_, append-assoc}
 use Prim.Native.Nat.{ℕ, zero, suc, _+_, _-_, _*_, _/_, _%_, _^_, _≤_, _<_}
 use native.Mathlib.Decide.{decLt}
-use native.Mathlib.Nat.{pow-suc, one-le-pow, pow-le-pow-right}
+use native.Mathlib.Nat.{pow-suc}
 use native.Mathlib.Omega.{arith}
 use borrow.Author.Tests.{lt-ltb, le-ltb, le-leb, ne-eqb}
-use lib.Dec.{ltb}
-use Rattle.io.specs.Digits.{digits, glyph, Fewest}
+use lib.ListN.{length, length-append}
 use Rattle.lines.specs.Grammar.{decimalWithin, decimalOf, largest}
 use Rattle.lines.specs.Reading.{readOn, readNumber}
 
 -- a number below ten is its one digit, and any other is its tenth and its last digit
-one-digit : (f n : ℕ) → n < 10 → decimalWithin f n ≡ (48 + n) ∷ []
+pub one-digit : (f n : ℕ) → n < 10 → decimalWithin f n ≡ (48 + n) ∷ []
 unfolding decimalWithin
 one-digit zero n l = refl
 one-digit (suc f) n l = rw (lt-ltb n 10 l)
 
-more-digits : (f n : ℕ) → 10 ≤ n → decimalWithin (suc f) n ≡ decimalWithin f (n / 10) ++ (48 + n % 10) ∷ []
+pub more-digits : (f n : ℕ) → 10 ≤ n → decimalWithin (suc f) n ≡ decimalWithin f (n / 10) ++ (48 + n % 10) ∷ []
 unfolding decimalWithin
 more-digits f n l = rw (le-ltb n 10 l)
 
@@ -45,31 +43,6 @@ decimal-snoc a d l h =
 pub decimal-digit : (n : ℕ) → n < 10 → decimalOf n ≡ (48 + n) ∷ []
 unfolding decimalOf
 decimal-digit n l = one-digit n n l
-
--- the fewest digits that hold a number are its text
-written : (k f n : ℕ) → n ≤ f → n < 10 ^ suc k → (0 < k → 10 ^ k ≤ n) → digits 10 (suc k) n ≡ decimalWithin f n
-written zero f n e l h =
-    let m : n % 10 ≡ n = omega arith in
-    rw (m, lt-ltb n 10 (omega arith)) (sym (one-digit f n (omega arith)))
-written (suc k) zero n e l h = absurd (omega (arith, h (omega arith), pow-suc 10 k, one-le-pow k 10 (omega arith)))
-written (suc k) (suc f) n e l h =
-    let p = h (omega arith) in
-    let big : 10 ≤ n = omega (arith, pow-suc 10 k, one-le-pow k 10 (omega arith)) in
-    let m : n % 10 < 10 = omega arith in
-    rw (more-digits f n big, lt-ltb (n % 10) 10 m, written k f (n / 10) (omega arith) (omega (arith, pow-suc 10 (suc k))) (λ z. omega (arith, pow-suc 10 k)))
-
-pub decimal-written : (n k : ℕ) → Fewest 10 1 n k → digits 10 k n ≡ decimalOf n
-unfolding decimalOf
-decimal-written n zero w = absurd (omega (arith, w .0))
-decimal-written n (suc k) w = let e : suc k - 1 ≡ k = omega arith in written k n n (omega arith) (w .1) (λ z. rw e at (w .2 (omega arith)))
-
--- twenty digits hold every number of the machine
-pub twenty-digits : (n k : ℕ) → n < 18446744073709551616 → Fewest 10 1 n k → k ≤ 20
-twenty-digits n k l w = go (decLt 20 k)
-  where
-    go : Dec (20 < k) → k ≤ 20
-    go (yes h) = absurd (omega (arith, w .2 (omega arith), pow-le-pow-right {n = 10} (omega arith) {i = 20} {j = k - 1} (omega arith)))
-    go (no h) = omega arith
 
 -- a digit at the start, and a digit that goes on
 first-read : (d : ℕ) (rest : List ℕ) → d < 10 → readNumber ((48 + d) ∷ rest) ≡ readOn d rest
@@ -101,3 +74,23 @@ back (suc f) n rest e l = go (back f) (decLt n 10)
 pub read-text : (n : ℕ) (rest : List ℕ) → n ≤ largest → readNumber (decimalOf n ++ rest) ≡ readOn n rest
 unfolding decimalOf
 read-text n rest l = back n n rest (omega arith) l
+
+-- a number below a power of ten has no more digits than the power
+one-long : (f n k : ℕ) → n < 10 → length (decimalWithin f n) ≤ suc k
+one-long f n k l = rw (one-digit f n l) (omega arith)
+
+short : (k f n : ℕ) → n < 10 ^ suc k → length (decimalWithin f n) ≤ suc k
+unfolding decimalWithin
+short k zero n l = omega arith
+short zero (suc f) n l = one-long (suc f) n zero (omega arith)
+short (suc k) (suc f) n l = go (short k f) (decLt n 10)
+  where
+    go : ((n : ℕ) → n < 10 ^ suc k → length (decimalWithin f n) ≤ suc k) → Dec (n < 10) → length (decimalWithin (suc f) n) ≤ suc (suc k)
+    go r (yes h) = one-long (suc f) n (suc k) h
+    go r (no h) =
+        rw (more-digits f n (omega arith), length-append (decimalWithin f (n / 10)) ((48 + n % 10) ∷ []))
+        (omega (arith, r (n / 10) (omega (arith, pow-suc 10 (suc k)))))
+
+pub ten-digits : (n : ℕ) → n ≤ largest → length (decimalOf n) ≤ 10
+unfolding decimalOf
+ten-digits n l = short 9 n n (omega arith)

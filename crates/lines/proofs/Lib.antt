@@ -1,4 +1,3 @@
 pub mod Decimal
 pub mod Texts
 pub mod Fields
-pub mod Placing

@@ -4,15 +4,16 @@ use mathlib.Core.Path.{_≡_, refl, sym, _∙_, ap, subst}
 use mathlib.Core.Bool.{Bool, true, false, cond, _&&_, false≢true}
 use mathlib.Core.List.{List, [], _∷_, _++_, append-assoc, append-nil}
 use mathlib.Core.Option.{Option, none, some, Option·some-injective, Option·none-ne-some}
-use Prim.Native.Nat.{ℕ, zero, suc, _+_, _-_, _*_, _≤_, _<_}
+use Prim.Native.Nat.{ℕ, _+_, _-_, _≤_}
 use native.Mathlib.Omega.{arith}
 use borrow.Author.Tests.{eqb-true, leb-true}
 use lib.Dec.{leb, eqb}
+use lib.ListN.{length, length-append}
 use Rattle.station.specs.declared.Call.{Call}
 use Rattle.station.specs.declared.Call.the-variants.{OpenUrgent, OpenFair, OfferCell, OfferPacket, OpenTurn, LostTurn, Begin, End}
 use Rattle.lines.specs.Grammar.{blank, largest, bigU, bigF, smallU, smallF, smallT, smallX, smallB, smallE, decimalOf, textOf, Small}
-use Rattle.lines.specs.Reading.{isDigit, grown, goesOn, Taken, readOn, readNumber, wordOf, oneOf, twoOf, readSecond, readFirst, readCall, ReadsOneText}
-use Rattle.lines.proofs.Decimal.{decimal-snoc, decimal-digit, read-text}
+use Rattle.lines.specs.Reading.{isDigit, grown, goesOn, Taken, readOn, readNumber, wordOf, oneOf, twoOf, readSecond, readFirst, readCall, ReadsOneText, TextsFit}
+use Rattle.lines.proofs.Decimal.{decimal-snoc, decimal-digit, read-text, ten-digits}
 
 -- both of two tests hold
 both : (a b : Bool) → (a && b) ≡ true → (a ≡ true) × (b ≡ true)
@@ -159,3 +160,17 @@ other line f = go (readCall line) refl
 
 pub reads-one-text : ReadsOneText
 reads-one-text line = (is-text line, λ c e s. ap readCall e ∙ reads-text c s, other line)
+
+-- a letter, two blanks and two numbers
+two-long : (letter a b : ℕ) → a ≤ largest → b ≤ largest → length (letter ∷ blank ∷ (decimalOf a ++ blank ∷ decimalOf b)) ≤ 23
+two-long letter a b l m = omega (arith, length-append (decimalOf a) (blank ∷ decimalOf b), ten-digits a l, ten-digits b m)
+
+pub texts-fit : TextsFit
+texts-fit (OpenUrgent flow deadline) s = two-long bigU flow deadline (s .0) (s .1)
+texts-fit (OpenFair flow weight) s = two-long bigF flow weight (s .0) (s .1)
+texts-fit (OfferCell flow) s = omega (arith, ten-digits flow s)
+texts-fit (OfferPacket flow len) s = two-long smallF flow len (s .0) (s .1)
+texts-fit OpenTurn s = omega arith
+texts-fit LostTurn s = omega arith
+texts-fit Begin s = omega arith
+texts-fit End s = omega arith

@@ -6,6 +6,7 @@ use lib.Dec.{ltb}
 use Rattle.station.specs.declared.Call.{Call}
 use Rattle.station.specs.declared.Call.the-variants.{OpenUrgent, OpenFair, OfferCell, OfferPacket, OpenTurn, LostTurn, Begin, End}
 
+-- what stands between two fields of a line
 abbrev pub blank : ℕ
 blank = 32
 
@@ -15,6 +16,7 @@ unfoldable pub decimalWithin : ℕ → ℕ → List ℕ
 decimalWithin zero n = (48 + n) ∷ []
 decimalWithin (suc steps) n = cond (ltb n 10) ((48 + n) ∷ []) (decimalWithin steps (n / 10) ++ (48 + n % 10) ∷ [])
 
+-- the one decimal text of a number
 unfoldable pub decimalOf : ℕ → List ℕ
 decimalOf n = decimalWithin n n
 

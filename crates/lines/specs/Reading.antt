@@ -4,7 +4,7 @@ use mathlib.Core.List.{List, [], _∷_}
 use mathlib.Core.Option.{Option, none, some}
 use mathlib.Core.Path.{_≡_}
 use Prim.Native.Nat.{ℕ, _+_, _-_, _*_, _≤_}
-use lib.Dec.{ltb, leb, eqb}
+use lib.Dec.{leb, eqb}
 use lib.ListN.{length, drop}
 use Rattle.station.specs.declared.Call.{Call}
 use Rattle.station.specs.declared.Call.the-variants.{OpenUrgent, OpenFair, OfferCell, OfferPacket, OpenTurn, LostTurn, Begin, End}
@@ -14,6 +14,7 @@ use Rattle.lines.specs.declared.parsing.Field.{Field}
 use Rattle.lines.specs.declared.parsing.Field.the-variants.{Number, Missing}
 use Rattle.lines.specs.Grammar.{blank, largest, bigU, bigF, smallU, smallF, smallT, smallX, smallB, smallE, textOf, Small}
 
+-- a byte is one of the digits 0 to 9
 abbrev pub isDigit : ℕ → Bool
 isDigit b = leb 48 b && leb b 57
 
@@ -34,40 +35,47 @@ unfoldable pub readOn : ℕ → List ℕ → Option Taken
 readOn value [] = some (value, [])
 readOn value (b ∷ bs) = cond (eqb b blank) (some (value, b ∷ bs)) (cond (goesOn value b) (readOn (grown value b) bs) none)
 
+-- a number at the start of some bytes; its first byte is a digit
 abbrev pub readNumber : List ℕ → Option Taken
 readNumber [] = none
 readNumber (b ∷ bs) = cond (isDigit b) (readOn (b - 48) bs) none
 
--- a letter alone, with one number, and with two
+-- the command of a letter alone
 abbrev pub wordOf : ℕ → Option Call
 wordOf letter =
     cond (eqb letter smallT) (some OpenTurn)
     (cond (eqb letter smallX) (some LostTurn)
     (cond (eqb letter smallB) (some Begin) (cond (eqb letter smallE) (some End) none)))
 
+-- the command of a letter and one number
 abbrev pub oneOf : ℕ → ℕ → Option Call
 oneOf letter a = cond (eqb letter smallU) (some (OfferCell a)) none
 
+-- the command of a letter and two numbers
 abbrev pub twoOf : ℕ → ℕ → ℕ → Option Call
 twoOf letter a b =
     cond (eqb letter bigU) (some (OpenUrgent a b))
     (cond (eqb letter bigF) (some (OpenFair a b)) (cond (eqb letter smallF) (some (OfferPacket a b)) none))
 
+-- after a first number and a blank a second number ends the line
 abbrev pub readSecond : ℕ → ℕ → Option Taken → Option Call
 readSecond letter a none = none
 readSecond letter a (some (b, [])) = twoOf letter a b
 readSecond letter a (some (b, x ∷ rest)) = none
 
+-- a first number ends the line, or a blank and a second number follow it
 abbrev pub readFirst : ℕ → Option Taken → Option Call
 readFirst letter none = none
 readFirst letter (some (a, [])) = oneOf letter a
 readFirst letter (some (a, x ∷ rest)) = readSecond letter a (readNumber rest)
 
+-- a line: a letter alone, or a letter, a blank and what follows
 abbrev pub readCall : List ℕ → Option Call
 readCall [] = none
 readCall (letter ∷ []) = wordOf letter
 readCall (letter ∷ x ∷ rest) = cond (eqb x blank) (readFirst letter (readNumber rest)) none
 
+-- the answer of `parse` for what a line is read as
 abbrev pub parsedOf : Option Call → Parsed
 parsedOf none = NoCommand
 parsedOf (some c) = Command c
@@ -79,6 +87,10 @@ ReadsOneText =
     → ((c : Call) → readCall line ≡ some c → (line ≡ textOf c) × Small c)
     × ((c : Call) → line ≡ textOf c → Small c → readCall line ≡ some c)
     × (((c : Call) → line ≡ textOf c → Small c → ⊥) → readCall line ≡ none)
+
+-- No call's text is longer than 23 bytes, so that no limit of 32 bytes shuts one out.
+abbrev pub TextsFit : Type 0
+TextsFit = (c : Call) → Small c → length (textOf c) ≤ 23
 
 -- a field of a line as it was taken: its number, and the place from which the rest stands
 abbrev pub Reads : List ℕ → Field → Option Taken → Type 0

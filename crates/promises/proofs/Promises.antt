@@ -9,7 +9,10 @@ use Rattle.promises_urgent.proofs.Optimal.{none-better}
 use Rattle.promises_urgent.proofs.Reason.{explained}
 use Rattle.promises_fair.proofs.Account.{as-published, served-in-order, ends-and-numbers, never-falls}
 use Rattle.promises.specs.Run.{fresh, run}
+use Rattle.lines.proofs.Texts.{reads-one-text}
+use Rattle.session.proofs.Pieces.{fed-in-pieces}
 use Rattle.promises.specs.Promises.{Promises}
+use Rattle.promises.proofs.Sessions.{calls-answered, others-answered}
 use Rattle.promises.proofs.Run.{run-on, good-run, fair-run, refused-as-told, urgent-only, fair-only}
 
 pub promises : Promises
@@ -39,4 +42,8 @@ promises =
       F4-charges = product-rule;
       A1 = published;
       R1 = λ earlier later e l. (omega arith, omega arith);
+      P1 = reads-one-text;
+      P1-others = others-answered;
+      P2 = calls-answered;
+      P3 = fed-in-pieces;
     }

@@ -19,6 +19,9 @@ use Rattle.station.specs.declared.Call.the-variants.{OpenUrgent, OpenFair, Offe
 use Rattle.station.specs.Calls.{freshStation, callOf}
 use Rattle.station.specs.Answers.{refusalIn}
 use Rattle.station.specs.Laws.{isUrgent, groundsOf}
+use Rattle.lines.specs.Reading.{ReadsOneText}
+use Rattle.session.specs.Laws.{FedInPieces}
+use Rattle.promises.specs.Sessions.{CallsAnswered, OthersAnswered}
 use Rattle.promises.specs.Run.{Run, run, runFrom, replies, repliesTo, only}
 
 -- calls of the fair lane
@@ -80,3 +83,10 @@ pub record Promises : Type 0 where
   pub R1 :
       (earlier later : ℕ) → earlier < 65536 → later < 65536
       → ((earlier + slotsPassed earlier later) % 65536 ≡ later) × (slotsPassed earlier earlier ≡ 0)
+  -- P1: a line is read as a call exactly when it is the call's one text and its numbers are at most 4,294,967,295
+  pub P1 : ReadsOneText
+  pub P1-others : OthersAnswered
+  -- P2: a call's text is answered by exactly the line that the rules give for its reply
+  pub P2 : CallsAnswered
+  -- P3: a whole session is one definition, bytes to bytes, and fed in any pieces the program's steps write it
+  pub P3 : FedInPieces

@@ -1,11 +1,11 @@
 -- A line that was printed apart stands in the output as if it had been printed there.
-use mathlib.Core.Path.{_≡_, refl, sym, _∙_, ap}
-use mathlib.Core.List.{List, [], _∷_, _++_, append-assoc, append-nil}
+use mathlib.Core.Path.{_≡_, sym, _∙_}
+use mathlib.Core.List.{List, [], _++_, append-nil}
 use Prim.Native.Nat.{ℕ, _+_, _-_, _≤_}
 use native.Mathlib.Omega.{arith}
 use lib.ListN.{length, take, drop, length-append, length-take, length-drop, drop-of-length-le}
 use lib.Seq.{take-all, take-length, take-at, drop-drop, length-take-le}
-use Rattle.lines.specs.Printing.{Put, Printed}
+use Rattle.replies.specs.Printing.{Put, Printed}
 
 -- a copy to the rest of the output from a place on
 pub placed : (text was part : List ℕ) (n place : ℕ) → n ≤ length text → place + n ≤ length was

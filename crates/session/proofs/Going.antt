@@ -1,9 +1,8 @@
 -- Feeding byte by byte: where the session stands after some bytes of an input, each way that the next byte can go, and the end.
 use mathlib.Core.Path.{_≡_, refl, sym, _∙_, ap}
-use mathlib.Core.Bool.{true, false}
 use mathlib.Core.List.{List, [], _∷_, _++_, append-assoc, append-nil}
 use mathlib.Core.Option.{Option, none, some}
-use Prim.Native.Nat.{ℕ, zero, suc, _+_, _-_, _≤_, _<_}
+use Prim.Native.Nat.{ℕ, suc, _+_, _-_, _≤_, _<_}
 use native.Mathlib.Numerals.{add-one}
 use native.Mathlib.Omega.{arith}
 use borrow.Author.Tests.{eq-eqb, ne-eqb, lt-ltb, le-ltb}
@@ -15,7 +14,7 @@ use Rattle.station.specs.declared.Called.{Called}
 use Rattle.lines.specs.declared.Parsed.{Parsed}
 use Rattle.lines.specs.declared.Parsed.the-variants.{Command, NoCommand}
 use Rattle.lines.specs.Reading.{parsedOf}
-use Rattle.lines.specs.Printing.{Put, Printed, lineFeed, noCommandLine, lineOf}
+use Rattle.replies.specs.Printing.{Put, Printed, lineFeed, noCommandLine, lineOf}
 use Rattle.session.specs.declared.Session.{Session}
 use Rattle.session.specs.Steps.{Step, keptAs, stepOf, after, fedOf, finishOf, longest, takenOf, Feeds}
 

@@ -3,20 +3,19 @@
 use mathlib.Core.Path.{_≡_, refl, sym, _∙_, ap}
 use mathlib.Core.Bool.{Bool, true, false, cond}
 use mathlib.Core.List.{List, [], _∷_, _++_, append-assoc, append-nil}
-use Prim.Native.Nat.{ℕ, zero, suc, _+_, _-_, _≤_, _<_}
+use Prim.Native.Nat.{ℕ, suc, _+_, _-_, _≤_, _<_}
 use native.Mathlib.Decide.{decLt}
 use native.Mathlib.Numerals.{add-one}
 use native.Mathlib.Omega.{arith}
-use borrow.Author.Tests.{eq-eqb, ne-eqb, le-ltb, le-leb, lt-leb, eqb-true, eqb-false}
+use borrow.Author.Tests.{eq-eqb, ne-eqb, le-ltb, lt-leb, eqb-true, eqb-false}
 use lib.Dec.{eqb}
 use lib.ListN.{length, take, set, length-append, length-set}
 use lib.Seq.{take-suc-set}
-use Rattle.station.specs.declared.Station.{Station}
-use Rattle.lines.specs.Printing.{lineFeed}
+use Rattle.replies.specs.Printing.{lineFeed}
 use Rattle.session.specs.declared.Session.{Session}
 use Rattle.session.specs.declared.Fed.{Fed}
 use Rattle.session.specs.Whole.{onto, linesOf, heardAs, answerOf, answersOf}
-use Rattle.session.specs.Steps.{Step, freshSession, keptAs, answeredBy, ended, stepOf, after, fedOf, finishOf, longest, takenOf, Feeds}
+use Rattle.session.specs.Steps.{Step, freshSession, keptAs, answeredBy, ended, stepOf, fedOf, finishOf, longest, takenOf, Feeds}
 use Rattle.session.specs.Laws.{joined, fedPieces, FedInPieces, TakesOn}
 use Rattle.session.proofs.Going.{fed-append, step-kept, step-long}
 

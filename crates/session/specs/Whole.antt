@@ -9,13 +9,14 @@ use Rattle.station.specs.Calls.{freshStation, callOf}
 use Rattle.station.specs.declared.Station.{Station}
 use Rattle.station.specs.declared.Call.{Call}
 use Rattle.lines.specs.Reading.{readCall}
-use Rattle.lines.specs.Printing.{lineFeed, noCommandLine, lineOf}
+use Rattle.replies.specs.Printing.{lineFeed, noCommandLine, lineOf}
 
--- the lines of the input, each up to its line feed; a last line without one counts if it has a byte
+-- the lines with one byte more in front of the first
 abbrev pub onto : ℕ → List (List ℕ) → List (List ℕ)
 onto b [] = (b ∷ []) ∷ []
 onto b (line ∷ lines) = (b ∷ line) ∷ lines
 
+-- the lines of the input, each up to its line feed; a last line without one counts if it has a byte
 unfoldable pub linesOf : List ℕ → List (List ℕ)
 linesOf [] = []
 linesOf (b ∷ bs) = cond (eqb b lineFeed) ([] ∷ linesOf bs) (onto b (linesOf bs))
@@ -39,5 +40,6 @@ unfoldable pub answersOf : Station → List (List ℕ) → List ℕ
 answersOf s [] = []
 answersOf s (line ∷ lines) = answerOf s (heardAs line) .text ++ answersOf (answerOf s (heardAs line) .station) lines
 
+-- what a fresh station answers to the whole input
 abbrev pub sessionOf : List ℕ → List ℕ
 sessionOf bytes = answersOf freshStation (linesOf bytes)

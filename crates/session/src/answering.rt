@@ -3,7 +3,7 @@ ghost use mathlib.Core.Path.{_≡_};
 ghost use Prim.Native.Nat.{_+_, _≤_};
 ghost use lib.ListN.{length, take};
 ghost use Rattle.lines.specs.Reading.{parsedOf};
-ghost use Rattle.lines.specs.Printing.{Put, noCommandLine, lineOf};
+ghost use Rattle.replies.specs.Printing.{Put, noCommandLine, lineOf};
 ghost use Rattle.session.specs.Steps.{keptAs};
 use lines::Parsed;
 use station::Reply;
@@ -25,7 +25,7 @@ pub(crate) fn reply(told: Reply, out: &mut [u8], at: usize) -> usize
     ensures { λ r. ⌜ Put (lineOf told) (now (out .entry)) at (now (out .exit)) r ⌝ }
 {
     let mut text = [0u8; 96];
-    let n = lines::print(told, &mut text);
+    let n = replies::print(told, &mut text);
     place(text, n, out, at)
 }
 
@@ -35,7 +35,7 @@ pub(crate) fn no_command(out: &mut [u8], at: usize) -> usize
     ensures { λ r. ⌜ Put noCommandLine (now (out .entry)) at (now (out .exit)) r ⌝ }
 {
     let mut text = [0u8; 96];
-    let n = lines::print_refusal(Refusal::NoCommand, &mut text);
+    let n = replies::print_refusal(Refusal::NoCommand, &mut text);
     place(text, n, out, at)
 }
 

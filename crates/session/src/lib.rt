@@ -2,8 +2,7 @@
 mod answering;
 
 ghost use mathlib.Core.Path.{_≡_};
-ghost use lib.ListN.{length};
-ghost use Rattle.lines.specs.Printing.{Printed};
+ghost use Rattle.replies.specs.Printing.{Printed};
 ghost use Rattle.session.specs.Steps.{freshSession, finishOf, Feeds};
 use answering::no_command;
 use answering::read;
@@ -102,9 +101,9 @@ impl Session {
                 let station = self.station;
                 let called = station.call(call);
                 let told = called.reply;
-                lines::print(told, out)
+                replies::print(told, out)
             }
-            Parsed::NoCommand => lines::print_refusal(units::Refusal::NoCommand, out),
+            Parsed::NoCommand => replies::print_refusal(units::Refusal::NoCommand, out),
         }
     }
 }

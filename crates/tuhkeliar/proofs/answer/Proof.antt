@@ -1,6 +1,6 @@
 -- `answer` is safe and ends. The invariant: out keeps its length, which has room for a line, so that each turn takes some byte of the
 -- piece. The measure is the bytes left.
-use mathlib.Core.Path.{_≡_, sym, _∙_}
+use mathlib.Core.Path.{_≡_, sym}
 use Prim.Native.Nat.{_-_, _≤_}
 use native.Mathlib.Omega.{arith}
 use borrow.Author.Needs.{needs}

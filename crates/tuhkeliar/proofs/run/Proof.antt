@@ -1,7 +1,5 @@
 -- `run` is safe and ends. The invariant: both buffers keep their length. The measure is the turns left.
-use mathlib.Core.Path.{_≡_, _∙_}
-use Prim.Native.Nat.{_-_, _≤_}
-use native.Mathlib.Omega.{arith}
+use mathlib.Core.Path.{_≡_}
 use borrow.Author.Needs.{needs}
 use lib.ListN.{length}
 use Rattle.tuhkeliar.proofs.run.Statement.{statement}

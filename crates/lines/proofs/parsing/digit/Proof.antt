@@ -1,6 +1,5 @@
 -- `digit` meets its contract: one bound after the other.
 use borrow.Author.Tests.{le-leb, lt-leb}
-use borrow.Author.Needs.{needs}
 use Rattle.lines.proofs.parsing.digit.Statement.{statement}
 use Rattle.lines.proofs.parsing.digit.Tie as tie
 

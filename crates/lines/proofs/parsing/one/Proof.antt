@@ -1,6 +1,5 @@
 -- `one` meets its contract: the letter is `u`, or no letter of a command with one number.
 use borrow.Author.Tests.{ne-eqb}
-use borrow.Author.Needs.{needs}
 use Rattle.lines.proofs.parsing.one.Statement.{statement}
 use Rattle.lines.proofs.parsing.one.Tie as tie
 

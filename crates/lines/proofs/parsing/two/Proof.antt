@@ -1,6 +1,5 @@
 -- `two` meets its contract: at each arm the letter is its own, and in the last none of them.
 use borrow.Author.Tests.{ne-eqb}
-use borrow.Author.Needs.{needs}
 use Rattle.lines.proofs.parsing.two.Statement.{statement}
 use Rattle.lines.proofs.parsing.two.Tie as tie
 

@@ -6,7 +6,7 @@ use native.Mathlib.Omega.{arith}
 use borrow.Author.Needs.{needs}
 use lib.ListN.{length, take, drop, length-take, length-drop}
 use lib.Seq.{length-take-le}
-use Rattle.lines.specs.Printing.{Put}
+use Rattle.replies.specs.Printing.{Put}
 use Rattle.session.proofs.Copying.{placed}
 use Rattle.session.proofs.answering.place.Statement.{statement}
 use Rattle.session.proofs.answering.place.Tie as tie

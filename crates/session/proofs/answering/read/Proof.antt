@@ -1,9 +1,8 @@
 -- `read` meets its contract: a count above 32 is no command, and any other is what is kept of the line.
-use mathlib.Core.Path.{sym, _∙_, ap}
+use mathlib.Core.Path.{sym}
 use borrow.Author.Tests.{le-leb, lt-leb}
 use borrow.Author.Needs.{needs}
 use lib.Seq.{length-take-le}
-use Rattle.lines.specs.Reading.{parsedOf}
 use Rattle.session.proofs.answering.read.Statement.{statement}
 use Rattle.session.proofs.answering.read.Tie as tie
 

@@ -1,0 +1,95 @@
+-- The line that each reply is written as: a word, each field after one blank, and a line feed.
+use mathlib.Core.List.{List, [], _∷_, _++_}
+use mathlib.Core.Path.{_≡_}
+use Prim.Native.Nat.{ℕ, _+_, _≤_}
+use lib.ListN.{length, take, drop}
+use Rattle.units.specs.declared.Refusal.{Refusal}
+use Rattle.units.specs.declared.Refusal.the-variants.{NoCommand}
+use Rattle.units.specs.Refusals.{numberOf}
+use Rattle.urgent.specs.declared.Answer as urgent
+use Rattle.urgent.specs.declared.Answer.the-variants.{Refused, Opened, Accepted, Sent, Idle}
+use Rattle.fair.specs.declared.Answer as fair
+use Rattle.fair.specs.declared.Answer.the-variants.{Refused as Refused', Opened as Opened', Accepted as Accepted', Begun, Ended}
+use Rattle.station.specs.declared.Reply.{Reply}
+use Rattle.station.specs.declared.Reply.the-variants.{Urgent, Fair}
+use Rattle.lines.specs.Grammar.{blank, decimalOf}
+
+-- what ends every line
+abbrev pub lineFeed : ℕ
+lineFeed = 10
+
+-- the words ok, no, sent, idle and missed
+abbrev pub okWord : List ℕ
+okWord = 111 ∷ 107 ∷ []
+
+abbrev pub noWord : List ℕ
+noWord = 110 ∷ 111 ∷ []
+
+abbrev pub sentWord : List ℕ
+sentWord = 115 ∷ 101 ∷ 110 ∷ 116 ∷ []
+
+abbrev pub idleWord : List ℕ
+idleWord = 105 ∷ 100 ∷ 108 ∷ 101 ∷ []
+
+abbrev pub missedWord : List ℕ
+missedWord = 109 ∷ 105 ∷ 115 ∷ 115 ∷ 101 ∷ 100 ∷ []
+
+-- each field after one blank, and a line feed
+abbrev pub fieldsOf : List (List ℕ) → List ℕ
+fieldsOf [] = lineFeed ∷ []
+fieldsOf (field ∷ fields) = blank ∷ (field ++ fieldsOf fields)
+
+-- a word and its fields
+abbrev pub lineWith : List ℕ → List (List ℕ) → List ℕ
+lineWith word fields = word ++ fieldsOf fields
+
+-- a refusal tells its number and nothing else
+abbrev pub refusalLine : Refusal → List ℕ
+refusalLine r = lineWith noWord (decimalOf (numberOf r) ∷ [])
+
+-- what a line that is no command is answered
+abbrev pub noCommandLine : List ℕ
+noCommandLine = refusalLine NoCommand
+
+-- a turn that sent a cell tells its flow and number, and how many cells were missed
+abbrev pub sentLine : ℕ → ℕ → ℕ → List ℕ
+sentLine flow number missed = lineWith sentWord (decimalOf flow ∷ decimalOf number ∷ missedWord ∷ decimalOf missed ∷ [])
+
+-- a turn that sent nothing tells how many cells were missed
+abbrev pub idleLine : ℕ → List ℕ
+idleLine missed = lineWith idleWord (missedWord ∷ decimalOf missed ∷ [])
+
+-- an accepted cell tells its number and last slot
+abbrev pub urgentLine : urgent.Answer → List ℕ
+urgentLine (Refused r) = refusalLine r
+urgentLine Opened = lineWith okWord []
+urgentLine (Accepted number last) = lineWith okWord (decimalOf number ∷ decimalOf (last .0) ∷ [])
+urgentLine (Sent flow number missed) = sentLine flow number missed
+urgentLine (Idle missed) = idleLine missed
+
+-- an accepted packet tells its number and both tags, one begun its flow, number and start tag, and one ended its flow and number
+abbrev pub fairLine : fair.Answer → List ℕ
+fairLine (Refused' r) = refusalLine r
+fairLine Opened' = lineWith okWord []
+fairLine (Accepted' number start finish) = lineWith okWord (decimalOf number ∷ decimalOf (start .0) ∷ decimalOf (finish .0) ∷ [])
+fairLine (Begun flow number len start) = lineWith okWord (decimalOf flow ∷ decimalOf number ∷ decimalOf (start .0) ∷ [])
+fairLine (Ended flow number len) = lineWith okWord (decimalOf flow ∷ decimalOf number ∷ [])
+
+-- the line of a reply, by the lane that the call went to
+abbrev pub lineOf : Reply → List ℕ
+lineOf (Urgent answer) = urgentLine answer
+lineOf (Fair answer) = fairLine answer
+
+-- the text stands at the start of what was there, the rest is as it was, and the count is the text's length; that nothing grew
+-- and that the count fits follow for text that fits, and are said for those who call
+pub record Printed (text was is : List ℕ) (count : ℕ) : Type 0 where
+  pub bytes : is ≡ text ++ drop (length text) was
+  pub counted : count ≡ length text
+  pub long : length is ≡ length was
+  pub fits : count ≤ length is
+
+-- the text stands from a place on, and the place after it is handed back
+pub record Put (text was : List ℕ) (place : ℕ) (is : List ℕ) (next : ℕ) : Type 0 where
+  pub bytes : is ≡ take place was ++ (text ++ drop (place + length text) was)
+  pub counted : next ≡ place + length text
+  pub long : length is ≡ length was
