@@ -1,26 +1,35 @@
 -- The one proof of the promises.
+use Prim.Native.Nat.{ℕ}
 use native.Mathlib.Omega.{arith}
 use Rattle.units.proofs.Charges.{product-rule}
 use Rattle.admission.proofs.Published.{published}
-use Rattle.station.proofs.Laws.{refused-first, refused-same}
+use Rattle.station.specs.Calls.{callOf}
+use Rattle.station.proofs.InKind.{answered-in-kind}
+use Rattle.station.proofs.Laws.{refused-first, number-told, grounds-rise, refused-same}
+use Rattle.lines.proofs.Texts.{reads-one-text}
+use Rattle.session.proofs.Pieces.{fed-in-pieces}
 use Rattle.promises_urgent.proofs.Account.{conserved, few-numbers, sends-earliest}
+use Rattle.promises_urgent.proofs.Account.{offer-told as cell-told}
 use Rattle.promises_urgent.proofs.Own.{own-plan}
 use Rattle.promises_urgent.proofs.Optimal.{none-better}
 use Rattle.promises_urgent.proofs.Reason.{explained}
-use Rattle.promises_fair.proofs.Account.{as-published, served-in-order, ends-and-numbers, never-falls}
+use Rattle.promises_fair.proofs.Account.{as-published, served-in-order, ends-and-numbers}
+use Rattle.promises_fair.proofs.Account.{offer-told as packet-told}
 use Rattle.promises.specs.Run.{fresh, run}
-use Rattle.lines.proofs.Texts.{reads-one-text}
-use Rattle.session.proofs.Pieces.{fed-in-pieces}
 use Rattle.promises.specs.Promises.{Promises}
+use Rattle.promises.proofs.Run.{run-on, good-run, fair-run, time-run, refused-as-told, urgent-only, fair-only}
 use Rattle.promises.proofs.Sessions.{calls-answered, others-answered}
-use Rattle.promises.proofs.Run.{run-on, good-run, fair-run, refused-as-told, urgent-only, fair-only}
 
 pub promises : Promises
+unfolding callOf
 promises =
     record {
       run-on = run-on fresh;
+      S0 = answered-in-kind;
       S1 = refused-same;
       S2 = refused-first;
+      S2-number = number-told;
+      S2-lowest = grounds-rise;
       S3-urgent = urgent-only;
       S3-fair = fair-only;
       S4 = refused-as-told;
@@ -30,18 +39,22 @@ promises =
           let g = good-run calls in
           record { conserved = conserved (r .station .urgent) (r .cells) (g .kept); missedAddUp = g .missed; cellForCell = g .kept .tied };
       U2 = λ calls. sends-earliest (run calls .station .urgent) (run calls .cells) (good-run calls .kept);
+      U3 = λ calls. cell-told (run calls .station .urgent) (run calls .cells) (good-run calls .kept);
       U3-numbers = λ calls. good-run calls .kept .numbered;
       U3-few = λ calls. few-numbers (run calls .station .urgent) (run calls .cells) (good-run calls .kept) (good-run calls .few);
       U4 = λ calls. own-plan (run calls .cells) (good-run calls .sends) (good-run calls .kept .numbered);
       U5 = λ calls. none-better (run calls .cells) (good-run calls .best);
       U6 = λ calls. explained (run calls .cells) (good-run calls .reasons);
-      F1 = λ calls. as-published (run calls .station .fair) (run calls .packets) (fair-run calls);
-      F2 = λ calls. served-in-order (run calls .station .fair) (run calls .packets) (fair-run calls);
-      F3 = λ calls. ends-and-numbers (run calls .station .fair) (run calls .packets) (fair-run calls);
-      F4-time = λ calls. never-falls (run calls .station .fair) (run calls .packets) (fair-run calls);
+      F1-time = λ calls. as-published (run calls .station .fair) (run calls .packets) (fair-run calls) .time;
+      F1 = λ calls. packet-told (run calls .station .fair) (run calls .packets) (fair-run calls);
+      F2 = λ calls. served-in-order (run calls .station .fair) (run calls .packets) (fair-run calls) .first;
+      F2-order = λ calls. served-in-order (run calls .station .fair) (run calls .packets) (fair-run calls);
+      F3 = λ calls. ends-and-numbers (run calls .station .fair) (run calls .packets) (fair-run calls) .ends;
+      F3-numbers = λ calls. ends-and-numbers (run calls .station .fair) (run calls .packets) (fair-run calls);
+      F4 = time-run;
       F4-charges = product-rule;
       A1 = published;
-      R1 = λ earlier later e l. (omega arith, omega arith);
+      R1 = λ earlier later e l. (omega arith, omega arith, omega arith);
       P1 = reads-one-text;
       P1-others = others-answered;
       P2 = calls-answered;

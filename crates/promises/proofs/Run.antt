@@ -2,6 +2,8 @@
 use mathlib.Core.Path.{_≡_, refl, ap₂, _∙_}
 use mathlib.Core.Bool.{Bool, true, false, cond}
 use mathlib.Core.List.{List, [], _∷_, _++_}
+use Prim.Native.Nat.{_≤_}
+use native.Mathlib.Nat.{le-refl, le-trans}
 use borrow.Author.Tests.{not-true, not-false}
 use Rattle.station.specs.declared.Station.{Station}
 use Rattle.station.specs.declared.Reply.{Reply}
@@ -13,7 +15,9 @@ use Rattle.station.proofs.Laws.{lanes-apart}
 use Rattle.units.specs.Refusals.{firstOf}
 use Rattle.station.specs.Answers.{refusalIn}
 use Rattle.promises_urgent.proofs.Account.{refused-as-told as urgent-told}
-use Rattle.promises_fair.proofs.Account.{refused-as-told as fair-told}
+use Rattle.promises_fair.proofs.Account.{refused-as-told as fair-told, opening-keeps, offer-keeps, never-falls}
+use Rattle.promises_fair.specs.Packets.{virtualTime}
+use Rattle.fair.specs.Calls.{openOf as openFairOf, offerOf as offerPacketOf}
 use Rattle.promises_fair.proofs.Good.{Good as FairGood, good-fresh as fair-fresh, good-open as fair-open, good-offer as fair-offer, good-begin, good-end, good-other}
 use Rattle.promises_urgent.proofs.Good.{Good, good-fresh, good-open, good-offer, good-turn}
 use Rattle.promises.specs.Promises.{isFair, groundsTold}
@@ -69,6 +73,26 @@ fair-from r (call ∷ calls) g = fair-from (after r call) calls (fair-after r ca
 
 pub fair-run : (calls : List Call) → FairGood (run calls .station .fair) (run calls .packets)
 fair-run calls = fair-from fresh calls fair-fresh
+
+-- virtual time never falls
+time-after : (r : Run) (call : Call) → FairRun r → virtualTime (r .packets .moments) ≤ virtualTime (after r call .packets .moments)
+unfolding callOf
+time-after r (OpenUrgent flow deadline) g = le-refl (virtualTime (r .packets .moments))
+time-after r (OpenFair flow weight) g = opening-keeps (r .packets) flow weight (openFairOf (r .station .fair) flow weight .answer)
+time-after r (OfferCell flow) g = le-refl (virtualTime (r .packets .moments))
+time-after r (OfferPacket flow length) g = offer-keeps (r .packets) flow length (offerPacketOf (r .station .fair) flow length .answer)
+time-after r OpenTurn g = le-refl (virtualTime (r .packets .moments))
+time-after r LostTurn g = le-refl (virtualTime (r .packets .moments))
+time-after r Begin g = never-falls (r .station .fair) (r .packets) g .begins
+time-after r End g = never-falls (r .station .fair) (r .packets) g .ends
+
+time-from : (r : Run) (calls : List Call) → FairRun r → virtualTime (r .packets .moments) ≤ virtualTime (runFrom r calls .packets .moments)
+unfolding runFrom
+time-from r [] g = le-refl (virtualTime (r .packets .moments))
+time-from r (call ∷ calls) g = le-trans (time-after r call g) (time-from (after r call) calls (fair-after r call g))
+
+pub time-run : (xs ys : List Call) → virtualTime (run xs .packets .moments) ≤ virtualTime (run (xs ++ ys) .packets .moments)
+time-run xs ys = rw (run-on fresh xs ys) (time-from (run xs) ys (fair-run xs))
 
 -- ---- what a call is refused for
 refused-from : (r : Run) → GoodRun r → FairRun r → (call : Call) → refusalIn (callOf (r .station) call .reply) ≡ firstOf (groundsTold r call)

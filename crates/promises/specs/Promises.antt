@@ -1,28 +1,30 @@
 -- The promises, each a field of one record, over every list of calls from a fresh station unless it says otherwise.
 use mathlib.Core.Path.{_≡_}
 use mathlib.Core.Bool.{Bool, not}
-use mathlib.Core.List.{List, _++_}
-use mathlib.Core.Option.{some}
-use Prim.Native.Nat.{ℕ, _+_, _%_, _<_}
+use mathlib.Core.List.{List, [], _∷_, _++_}
+use mathlib.Core.Option.{none}
+use Prim.Native.Nat.{ℕ, _+_, _%_, _≤_, _<_}
 use Rattle.units.specs.Refusals.{Ground, firstOf}
 use Rattle.units.specs.Charges.{ProductRule}
 use Rattle.units.specs.Radio.{slotsPassed}
 use Rattle.units.specs.declared.Refusal.{Refusal}
 use Rattle.admission.specs.Published.{Published}
-use Rattle.promises_urgent.specs.Promised.{OnTime, Accounted, SendsEarliest, Numbered, FewNumbers, OwnPlan, NoneBetter, Explained}
+use Rattle.promises_urgent.specs.Promised.{OnTime, acceptedOf, Accounted, Earliest, lastIn, Numbered, FewNumbers, OwnPlan, NoneBetter, Explained}
 use Rattle.promises_urgent.specs.Refused.{openingTold as urgentOpening, offeringTold as cellOffering, turnTold}
-use Rattle.promises_fair.specs.Promised.{AsPublished, ServedInOrder, EndsAndNumbers, NeverFalls}
+use Rattle.promises_fair.specs.Packets.{virtualTime}
+use Rattle.promises_fair.specs.Promised.{acceptedOf as packetsOf, startIn, finishTag, First, ServedInOrder, LastBegun, EndsAndNumbers}
 use Rattle.promises_fair.specs.Refused.{openingTold as fairOpening, offeringTold as packetOffering, beginTold, endTold}
 use Rattle.station.specs.declared.Station.{Station}
 use Rattle.station.specs.declared.Call.{Call}
 use Rattle.station.specs.declared.Call.the-variants.{OpenUrgent, OpenFair, OfferCell, OfferPacket, OpenTurn, LostTurn, Begin, End}
 use Rattle.station.specs.Calls.{freshStation, callOf}
-use Rattle.station.specs.Answers.{refusalIn}
-use Rattle.station.specs.Laws.{isUrgent, groundsOf}
+use Rattle.station.specs.Answers.{told, refusalIn}
+use Rattle.station.specs.InKind.{AnsweredInKind}
+use Rattle.station.specs.Laws.{RefusedFirst, NumberTold, GroundsRise, RefusedSame, isUrgent}
 use Rattle.lines.specs.Reading.{ReadsOneText}
 use Rattle.session.specs.Laws.{FedInPieces}
 use Rattle.promises.specs.Sessions.{CallsAnswered, OthersAnswered}
-use Rattle.promises.specs.Run.{Run, run, runFrom, replies, repliesTo, only}
+use Rattle.promises.specs.Run.{Run, run, runFrom, replyTo, onUrgent, onFair, replies, repliesTo, only}
 
 -- calls of the fair lane
 abbrev pub isFair : Call → Bool
@@ -43,22 +45,29 @@ groundsTold r End = endTold (r .packets)
 pub record Promises : Type 0 where
   -- a list of calls goes on where a shorter one left off
   pub run-on : (xs ys : List Call) → run (xs ++ ys) ≡ runFrom (run xs) ys
+  -- S0: every call is answered by its own lane, and by what such a call is answered or a refusal, in every state
+  pub S0 : AnsweredInKind
   -- S1: a refused call leaves the station as it was, in every state
-  pub S1 : (s : Station) (call : Call) (r : Refusal) → refusalIn (callOf s call .reply) ≡ some r → callOf s call .station ≡ s
-  -- S2: a call is refused exactly for the first of its grounds that holds, in every state
-  pub S2 : (s : Station) (call : Call) → refusalIn (callOf s call .reply) ≡ firstOf (groundsOf s call)
+  pub S1 : RefusedSame
+  -- S2: a call is refused exactly for the first of its grounds that holds, which is the one with the lowest number, in every state
+  pub S2 : RefusedFirst
+  pub S2-number : NumberTold
+  pub S2-lowest : GroundsRise
   -- S3: the lanes share nothing: the replies to one lane's calls are the replies to those calls alone
   pub S3-urgent : (calls : List Call) → repliesTo isUrgent freshStation calls ≡ replies freshStation (only isUrgent calls)
   pub S3-fair : (calls : List Call) → repliesTo isFair freshStation calls ≡ replies freshStation (only isFair calls)
-  -- S4: a call is refused exactly as the calls and replies so far tell; one that no condition refuses is accepted
-  pub S4 : (calls : List Call) (call : Call) → refusalIn (callOf (run calls .station) call .reply) ≡ firstOf (groundsTold (run calls) call)
+  -- S4: a call is refused exactly as the calls and replies so far tell; with S0, one that no condition refuses is accepted
+  pub S4 : (calls : List Call) (call : Call) → refusalIn (replyTo calls call) ≡ firstOf (groundsTold (run calls) call)
   -- U0: time is the calls': the slot number is the number of turns answered and not refused
   pub U0 : (calls : List Call) → OnTime (run calls .station .urgent) (run calls .cells)
   -- U1: accepted = sent + missed + waiting, and the places held are the waiting cells
   pub U1 : (calls : List Call) → Accounted (run calls .station .urgent) (run calls .cells)
-  -- U2: an open turn sends the waiting cell with the earliest last slot
-  pub U2 : (calls : List Call) → SendsEarliest (run calls .station .urgent) (run calls .cells)
-  -- U3: cells are numbered from 0 in each flow, their windows are those of the rules, and no number wraps
+  -- U2: an open turn sends the waiting cell with the earliest last slot; that no other cell leaves by sending is U1 after the turn
+  pub U2 : (calls : List Call) → onUrgent (Earliest (run calls .cells)) (replyTo calls OpenTurn)
+  -- U3: an accepted cell is told how many of its flow were accepted before it, and the last slot of its window; no number wraps
+  pub U3 :
+      (calls : List Call) (flow : ℕ) → refusalIn (replyTo calls (OfferCell flow)) ≡ none
+      → told (replyTo calls (OfferCell flow)) .values ≡ acceptedOf (run calls .cells) flow ∷ lastIn (run calls .cells) flow ∷ []
   pub U3-numbers : (calls : List Call) → Numbered (run calls .cells .accepted)
   pub U3-few : (calls : List Call) → FewNumbers (run calls .station .urgent) (run calls .cells)
   -- U4: the lane's own sendings are a plan: each cell once, in an open slot, inside its window
@@ -67,26 +76,34 @@ pub record Promises : Type 0 where
   pub U5 : (calls : List Call) → NoneBetter (run calls .cells)
   -- U6: every missed cell has a reason
   pub U6 : (calls : List Call) → Explained (run calls .cells)
-  -- F1: virtual time and the tags of every accepted packet are the published ones
-  pub F1 : (calls : List Call) → AsPublished (run calls .station .fair) (run calls .packets)
-  -- F2: begin takes the packet with the smallest start tag, within a flow the lowest number; the places held are the waiting packets
-  pub F2 : (calls : List Call) → ServedInOrder (run calls .station .fair) (run calls .packets)
+  -- F1: virtual time is the published one, and an accepted packet is told the published tags
+  pub F1-time : (calls : List Call) → run calls .station .fair .time .0 ≡ virtualTime (run calls .packets .moments)
+  pub F1 :
+      (calls : List Call) (flow length : ℕ) → refusalIn (replyTo calls (OfferPacket flow length)) ≡ none
+      → told (replyTo calls (OfferPacket flow length)) .values
+      ≡ packetsOf (run calls .packets) flow ∷ startIn (run calls .packets) flow ∷ finishTag (run calls .packets) flow length ∷ []
+  -- F2: begin takes the waiting packet with the smallest start tag, within a flow the lowest number; the places held are the waiting packets
+  pub F2 : (calls : List Call) → onFair (First (run calls .packets)) (replyTo calls Begin)
+  pub F2-order : (calls : List Call) → ServedInOrder (run calls .station .fair) (run calls .packets)
   -- F3: end answers the packet last begun; packets are numbered from 0 in each flow, and no number wraps
-  pub F3 : (calls : List Call) → EndsAndNumbers (run calls .station .fair) (run calls .packets)
-  -- F4: virtual time never falls
-  pub F4-time : (calls : List Call) → NeverFalls (run calls .station .fair) (run calls .packets)
-  -- F4: every charge times its weight is 720,720
+  pub F3 : (calls : List Call) → onFair (LastBegun (run calls .packets .moments)) (replyTo calls End)
+  pub F3-numbers : (calls : List Call) → EndsAndNumbers (run calls .station .fair) (run calls .packets)
+  -- F4: virtual time never falls, and every charge times its weight is 720,720
+  pub F4 : (xs ys : List Call) → virtualTime (run xs .packets .moments) ≤ virtualTime (run (xs ++ ys) .packets .moments)
   pub F4-charges : ProductRule
   -- A1: admission is the published link test
   pub A1 : Published
-  -- R1: slots passed lead from the earlier count to the later, and equal counts give 0
+  -- R1: slots passed are below 65,536 and lead from the earlier count to the later; equal counts give 0
   pub R1 :
       (earlier later : ℕ) → earlier < 65536 → later < 65536
-      → ((earlier + slotsPassed earlier later) % 65536 ≡ later) × (slotsPassed earlier earlier ≡ 0)
-  -- P1: a line is read as a call exactly when it is the call's one text and its numbers are at most 4,294,967,295
+      → (slotsPassed earlier later < 65536)
+      × ((earlier + slotsPassed earlier later) % 65536 ≡ later)
+      × (slotsPassed earlier earlier ≡ 0)
+  -- P1: a line is read as a call exactly when it is the call's one text and its numbers are at most 4,294,967,295; every other line is
+  -- answered `no 11`, once, and leaves the station as it was
   pub P1 : ReadsOneText
   pub P1-others : OthersAnswered
-  -- P2: a call's text is answered by exactly the line that the rules give for its reply
+  -- P2: a call's text is answered by exactly the line of its reply
   pub P2 : CallsAnswered
   -- P3: a whole session is one definition, bytes to bytes, and fed in any pieces the program's steps write it
   pub P3 : FedInPieces

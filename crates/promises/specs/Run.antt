@@ -1,9 +1,12 @@
 -- A list of calls from a fresh station: what the station has come to, and what the calls and replies alone tell.
 use mathlib.Core.Bool.{Bool, true, false, cond}
 use mathlib.Core.List.{List, [], _∷_}
+use Rattle.urgent.specs.declared.Answer.{Answer as UrgentAnswer}
+use Rattle.fair.specs.declared.Answer.{Answer as FairAnswer}
 use Rattle.promises_urgent.specs.Cells.{Cells, noCells, noteOpening, noteOffer, noteTurn}
-use Rattle.promises_fair.specs.Packets.{Packets, noPackets, noteOther, noteService}
-use Rattle.promises_fair.specs.Packets.{noteOpening as noteFairOpening, noteOffer as notePacket}
+use Rattle.promises_fair.specs.Packets.{Packets, noPackets}
+use Rattle.promises_fair.specs.Notes.{noteOther, noteService}
+use Rattle.promises_fair.specs.Notes.{noteOpening as noteFairOpening, noteOffer as notePacket}
 use Rattle.station.specs.declared.Station.{Station}
 use Rattle.station.specs.declared.Reply.{Reply}
 use Rattle.station.specs.declared.Reply.the-variants.{Urgent, Fair}
@@ -60,6 +63,19 @@ fresh = record { station = freshStation; cells = noCells; packets = noPackets }
 -- all the calls of a list, from a fresh station
 abbrev pub run : List Call → Run
 run calls = runFrom fresh calls
+
+-- the reply to one call more
+abbrev pub replyTo : List Call → Call → Reply
+replyTo calls call = callOf (run calls .station) call .reply
+
+-- a statement about the answer of a lane, of a reply that is that lane's
+abbrev pub onUrgent : (UrgentAnswer → Type 0) → Reply → Type 0
+onUrgent P (Urgent answer) = P answer
+onUrgent P (Fair answer) = ⊥
+
+abbrev pub onFair : (FairAnswer → Type 0) → Reply → Type 0
+onFair P (Urgent answer) = ⊥
+onFair P (Fair answer) = P answer
 
 -- the replies to those calls of a list that pass a test
 unfoldable pub repliesTo : (Call → Bool) → Station → List Call → List Reply

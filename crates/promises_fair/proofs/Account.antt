@@ -1,7 +1,8 @@
 -- What the calls keep says of the promises: F1 to F4 of tags, service, ends and virtual time, and S4 of refusals.
-use mathlib.Core.Path.{_≡_, sym, _∙_}
+use mathlib.Core.Path.{_≡_, refl, sym, _∙_}
 use mathlib.Core.Bool.{Bool, true, false, cond, _&&_, true≢false}
 use mathlib.Core.List.{List, [], _∷_}
+use mathlib.Core.Option.{none}
 use Prim.Native.Nat.{ℕ, _≤_, max}
 use native.Mathlib.Nat.{le-refl}
 use native.Mathlib.Omega.{arith}
@@ -13,12 +14,16 @@ use Rattle.places.proofs.Tests.{and-holds}
 use Rattle.tags.specs.declared.Packet.{Packet as Place}
 use Rattle.fair.specs.declared.Service.{Service}
 use Rattle.fair.specs.declared.Fair.{Fair}
-use Rattle.fair.specs.declared.Answer.the-variants.{Begun, Ended}
+use Rattle.fair.specs.declared.Answer.{Answer}
+use Rattle.fair.specs.declared.Answer.the-variants.{Refused, Opened, Accepted, Begun, Ended}
+use Rattle.fair.specs.Answers.{told, refusalIn}
+use Rattle.fair.specs.Calls.{offerOf}
 use Rattle.fair.specs.Lane.{keyOf, chosen}
 use Rattle.fair.proofs.Cases.{offer-cases, begin-cases, end-cases}
 use Rattle.fair.proofs.Refused.{refused-first}
-use Rattle.promises_fair.specs.Packets.{Packet, Moment, began, ceased, Packets, waits, waitingAll, inService, lastStart, largestEnded, virtualTime, noteService}
-use Rattle.promises_fair.specs.Promised.{Tagged, AsPublished, packetKey, First, ServedInOrder, LastBegun, EndsAndNumbers, NeverFalls}
+use Rattle.promises_fair.specs.Packets.{Packet, Moment, began, ceased, Packets, waits, waitingAll, inService, lastStart, largestEnded, virtualTime}
+use Rattle.promises_fair.specs.Notes.{noteOpening, noteOffer, noteService}
+use Rattle.promises_fair.specs.Promised.{acceptedOf, startIn, finishTag, Tagged, AsPublished, packetKey, First, ServedInOrder, LastBegun, EndsAndNumbers, NeverFalls}
 use Rattle.promises_fair.specs.Refused.{RefusedAsTold}
 use Rattle.promises_fair.proofs.Kept.{asks, Serves, waiting-told, waiting-all}
 use Rattle.promises_fair.proofs.Offered.{start-told, finish-told}
@@ -128,3 +133,36 @@ refused-as-told u h g =
       beginning = refused-first u .beginning ∙ rw (busy, waiting-all u (h .openings) (h .accepted) (h .moments) k);
       ending = refused-first u .ending ∙ rw busy;
     }
+
+-- ---- what an accepted offer is told
+pub offer-told : (u : Fair) (h : Packets) → Good u h → (flow length : ℕ) → refusalIn (offerOf u flow length .answer) ≡ none
+    → told (offerOf u flow length .answer) .values ≡ acceptedOf h flow ∷ startIn h flow ∷ finishTag h flow length ∷ []
+offer-told u h g flow length = go (offerOf u flow length .answer) (as-published u h g .tags flow length)
+  where
+    go : (a : Answer) → Tagged h flow length a → refusalIn a ≡ none → told a .values ≡ acceptedOf h flow ∷ startIn h flow ∷ finishTag h flow length ∷ []
+    go (Accepted n s f) t e = rw (t .0, t .1, t .2)
+    go (Refused r) t e = absurd (let z : _≡_ {A = ℕ} 0 1 = cc in omega arith)
+    go Opened t e = absurd t
+    go (Begun f n l s) t e = absurd t
+    go (Ended f n l) t e = absurd t
+
+-- ---- F4: one call more never takes virtual time back
+same-opening : (h : Packets) (flow weight : ℕ) (a : Answer) → noteOpening h flow weight a .moments ≡ h .moments
+same-opening h flow weight (Refused r) = refl
+same-opening h flow weight Opened = refl
+same-opening h flow weight (Accepted n s f) = refl
+same-opening h flow weight (Begun f n l s) = refl
+same-opening h flow weight (Ended f n l) = refl
+
+same-offer : (h : Packets) (flow length : ℕ) (a : Answer) → noteOffer h flow length a .moments ≡ h .moments
+same-offer h flow length (Refused r) = refl
+same-offer h flow length Opened = refl
+same-offer h flow length (Accepted n s f) = refl
+same-offer h flow length (Begun f n l s) = refl
+same-offer h flow length (Ended f n l) = refl
+
+pub opening-keeps : (h : Packets) (flow weight : ℕ) (a : Answer) → virtualTime (h .moments) ≤ virtualTime (noteOpening h flow weight a .moments)
+opening-keeps h flow weight a = rw (same-opening h flow weight a) (le-refl (virtualTime (h .moments)))
+
+pub offer-keeps : (h : Packets) (flow length : ℕ) (a : Answer) → virtualTime (h .moments) ≤ virtualTime (noteOffer h flow length a .moments)
+offer-keeps h flow length a = rw (same-offer h flow length a) (le-refl (virtualTime (h .moments)))

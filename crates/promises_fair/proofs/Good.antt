@@ -11,7 +11,8 @@ use Rattle.fair.specs.declared.Fair.{Fair}
 use Rattle.fair.specs.Lane.{freshLane}
 use Rattle.fair.specs.Calls.{openOf, offerOf, beginOf, endOf}
 use Rattle.fair.proofs.Cases.{open-cases, offer-cases, begin-cases, end-cases}
-use Rattle.promises_fair.specs.Packets.{Packets, noPackets, openIn, weightIn, lastFinish, largestEnded, virtualTime, noteOther, noteOpening, noteOffer, noteService}
+use Rattle.promises_fair.specs.Packets.{Packets, noPackets, openIn, weightIn, lastFinish, largestEnded, virtualTime}
+use Rattle.promises_fair.specs.Notes.{noteOther, noteOpening, noteOffer, noteService}
 use Rattle.promises_fair.specs.Promised.{holds, begunOf}
 use Rattle.promises_fair.proofs.Kept.{Kept, Paced, kept-open}
 use Rattle.promises_fair.proofs.Offered.{kept-offer, paced-offer}

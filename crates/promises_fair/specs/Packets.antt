@@ -1,12 +1,9 @@
 -- What has become of the fair lane's packets, read off the calls and their answers alone. Each list has the newest first.
 use mathlib.Core.Bool.{Bool, true, false, not, cond, _&&_, _||_}
 use mathlib.Core.List.{List, [], _∷_}
-use Prim.Native.Nat.{ℕ, suc, max}
+use Prim.Native.Nat.{ℕ, max}
 use lib.Dec.{eqb}
-use Rattle.units.specs.Charges.{chargeOf}
 use Rattle.places.specs.Places.{count}
-use Rattle.fair.specs.declared.Answer.{Answer}
-use Rattle.fair.specs.declared.Answer.the-variants.{Refused, Opened, Accepted, Begun, Ended}
 
 -- an opening that was answered ok
 pub record Opening : Type 0 where
@@ -23,7 +20,7 @@ pub record Packet : Type 0 where
   pub charge : ℕ
 
 -- what happened to the service: a packet was begun, as the begin answered, or ended, as the end answered; with the position of the
--- call in the list of calls, and for an end the finish tag of the packet as it was accepted and how many accepted packets were not
+-- call in the list of calls, from 0, and for an end the finish tag of the packet as it was accepted and how many accepted packets were not
 -- begun then
 pub data Moment : Type 0 where
   began : (flow number length start position : ℕ) → Moment
@@ -99,64 +96,3 @@ unfoldable pub virtualTime : List Moment → ℕ
 virtualTime [] = 0
 virtualTime (began f n l s p ∷ ms) = s
 virtualTime (ceased f n l p e w ∷ ms) = cond (eqb w 0) (largestEnded (ceased f n l p e w ∷ ms)) (lastStart ms)
-
--- a call that changed nothing
-abbrev pub noteOther : Packets → Packets
-noteOther h = record { calls = suc (h .calls); openings = h .openings; accepted = h .accepted; moments = h .moments }
-
--- an opening call and its answer
-abbrev pub noteOpening : Packets → ℕ → ℕ → Answer → Packets
-noteOpening h flow weight Opened =
-    record {
-      calls = suc (h .calls);
-      openings = record { flow = flow; weight = weight } ∷ h .openings;
-      accepted = h .accepted;
-      moments = h .moments;
-    }
-noteOpening h flow weight (Refused r) = noteOther h
-noteOpening h flow weight (Accepted number start finish) = noteOther h
-noteOpening h flow weight (Begun f number length start) = noteOther h
-noteOpening h flow weight (Ended f number length) = noteOther h
-
--- an offering call and its answer
-abbrev pub noteOffer : Packets → ℕ → ℕ → Answer → Packets
-noteOffer h flow length (Accepted number start finish) =
-    record {
-      calls = suc (h .calls);
-      openings = h .openings;
-      accepted =
-          record {
-            flow = flow;
-            number = number;
-            start = start .0;
-            finish = finish .0;
-            length = length;
-            charge = chargeOf (weightIn (h .openings) flow);
-          }
-          ∷ h .accepted;
-      moments = h .moments;
-    }
-noteOffer h flow length (Refused r) = noteOther h
-noteOffer h flow length Opened = noteOther h
-noteOffer h flow length (Begun f number l start) = noteOther h
-noteOffer h flow length (Ended f number l) = noteOther h
-
--- a begin or an end and its answer
-abbrev pub noteService : Packets → Answer → Packets
-noteService h (Begun flow number length start) =
-    record {
-      calls = suc (h .calls);
-      openings = h .openings;
-      accepted = h .accepted;
-      moments = began flow number length (start .0) (h .calls) ∷ h .moments;
-    }
-noteService h (Ended flow number length) =
-    record {
-      calls = suc (h .calls);
-      openings = h .openings;
-      accepted = h .accepted;
-      moments = ceased flow number length (h .calls) (finishIn (h .accepted) flow number) (waitingAll h) ∷ h .moments;
-    }
-noteService h (Refused r) = noteOther h
-noteService h Opened = noteOther h
-noteService h (Accepted number start finish) = noteOther h

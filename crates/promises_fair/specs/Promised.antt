@@ -15,7 +15,8 @@ use Rattle.fair.specs.declared.Answer.{Answer}
 use Rattle.fair.specs.declared.Answer.the-variants.{Refused, Opened, Accepted, Begun, Ended}
 use Rattle.fair.specs.Lane.{flowAt}
 use Rattle.fair.specs.Calls.{offerOf, beginOf, endOf}
-use Rattle.promises_fair.specs.Packets.{Packet, Moment, began, ceased, Packets, weightIn, lastFinish, waits, virtualTime, noteService}
+use Rattle.promises_fair.specs.Packets.{Packet, Moment, began, ceased, Packets, weightIn, lastFinish, waits, virtualTime}
+use Rattle.promises_fair.specs.Notes.{noteService}
 
 -- how many packets of a flow were accepted
 abbrev pub acceptedOf : Packets → ℕ → ℕ

@@ -1,6 +1,7 @@
 -- What the kept invariant says of the account: U1 and S4, and what an open turn's choice is among the waiting cells (U2).
 use mathlib.Core.Path.{_≡_, refl, sym, _∙_, subst}
 use mathlib.Core.Bool.{Bool, true, false, not, cond, _&&_, false≢true}
+use mathlib.Core.List.{[], _∷_}
 use mathlib.Core.Option.{none, some}
 use Prim.Native.Nat.{ℕ, _+_, _<_}
 use native.Mathlib.Omega.{arith}
@@ -19,10 +20,12 @@ use Rattle.urgent.specs.declared.Cell.{Cell as Place}
 use Rattle.urgent.specs.declared.Urgent.{Urgent}
 use Rattle.urgent.specs.declared.Answer.the-variants.{Sent}
 use Rattle.urgent.specs.Lane.{freeCell, isHeld, keyOf, lastIs, waitingOf}
-use Rattle.urgent.specs.Calls.{unless, chosen, turned, turnOf}
+use Rattle.urgent.specs.Answers.{told, refusalIn}
+use Rattle.urgent.proofs.Cases.{offer-cases}
+use Rattle.urgent.specs.Calls.{offerOf, unless, chosen, turned, turnOf}
 use Rattle.urgent.proofs.Laws.{sends-first, refused-first}
 use Rattle.promises_urgent.specs.Cells.{Cell, Cells, wasSent, waits, isMissed}
-use Rattle.promises_urgent.specs.Promised.{Question, holds, acceptedOf, sentOf, missedOf, cellKey, Earliest, SendsEarliest, FewNumbers}
+use Rattle.promises_urgent.specs.Promised.{Question, holds, acceptedOf, lastIn, sentOf, missedOf, cellKey, Earliest, SendsEarliest, FewNumbers}
 use Rattle.promises_urgent.specs.Refused.{RefusedAsTold}
 use Rattle.places.proofs.Members.{none-passes, some-passes, each-map, some-map}
 use Rattle.promises_urgent.proofs.Kept.{Kept, Few, waiting-told, waiting-most}
@@ -67,6 +70,14 @@ refused-as-told u h k =
           ∙ after-flow flow _ _ (λ l. rw (k .openFlows flow (omega arith), waiting-told u h k flow (omega arith), k .time, k .deadlines flow (omega arith)));
       turning = λ usable. refused-first u .turning usable ∙ rw (k .time);
     }
+
+-- ---- U3: what an accepted offer is told
+pub offer-told : (u : Urgent) (h : Cells) → Kept u h → (flow : ℕ) → refusalIn (offerOf u flow .answer) ≡ none
+    → told (offerOf u flow .answer) .values ≡ acceptedOf h flow ∷ lastIn h flow ∷ []
+offer-told u h k flow =
+    offer-cases u (λ d. refusalIn (d .answer) ≡ none → told (d .answer) .values ≡ acceptedOf h flow ∷ lastIn h flow ∷ [])
+    (λ r e. absurd (let z : _≡_ {A = ℕ} 0 1 = cc in omega arith)) flow
+    (λ l o w e. rw (k .next flow (omega arith), k .time, k .deadlines flow (omega arith)))
 
 -- ---- U2: what an open turn finds among the waiting cells
 module _ (u : Urgent) (h : Cells) (k : Kept u h) where

@@ -2,7 +2,7 @@
 use mathlib.Core.Path.{_≡_}
 use mathlib.Core.Bool.{Bool, true, false, cond, _&&_}
 use mathlib.Core.List.{List, [], _∷_, map}
-use Prim.Native.Nat.{ℕ, suc, _+_, _*_, _≤_, _<_}
+use Prim.Native.Nat.{ℕ, suc, _+_, _-_, _*_, _≤_, _<_}
 use lib.Dec.{eqb}
 use lib.ListN.{length, getD}
 use Rattle.units.specs.Limits.{placeCount, slotLimit}
@@ -16,7 +16,7 @@ use Rattle.urgent.specs.Lane.{flowAt, waitingOf}
 use Rattle.urgent.specs.Calls.{turnOf}
 use Rattle.places.specs.Members.{Each, Some}
 use Rattle.promises_urgent.specs.Plans.{Sending, Plan, Overloaded}
-use Rattle.promises_urgent.specs.Cells.{Cell, noCell, Gone, Cells, waits, isMissed, windowOf, windows}
+use Rattle.promises_urgent.specs.Cells.{Cell, deadlineIn, noCell, Gone, Cells, waits, isMissed, windowOf, windows}
 
 -- U0: the lane's next slot is the number of turns answered and not refused.
 abbrev pub OnTime : Urgent → Cells → Type 0
@@ -83,6 +83,10 @@ Numbered (a ∷ rest) =
     × (a .last ≡ windowOf a .last)
     × (1 ≤ a .deadline)
     × Numbered rest
+
+-- the last slot of the window of a cell accepted now
+abbrev pub lastIn : Cells → ℕ → ℕ
+lastIn h flow = h .slot + deadlineIn (h .openings) flow - 1
 
 -- U3: and no flow's next number comes near the end of its type.
 abbrev pub FewNumbers : Urgent → Cells → Type 0

@@ -1,6 +1,14 @@
 -- The station's laws, from the lanes'.
-use mathlib.Core.Path.{_≡_, refl, ap}
+use mathlib.Core.Path.{_≡_, refl, ap, _∙_}
 use mathlib.Core.Bool.{true, false, true≢false, false≢true}
+use Rattle.units.specs.Refusals.{risesFrom}
+use Rattle.units.specs.Answers.{numberIn}
+use Rattle.urgent.specs.declared.Answer.{Answer as UrgentAnswer}
+use Rattle.urgent.specs.declared.Answer.the-variants.{Refused, Opened, Accepted, Sent, Idle}
+use Rattle.urgent.specs.Answers.{told as urgentTold, refusalIn as urgentRefusal}
+use Rattle.fair.specs.declared.Answer.{Answer as FairAnswer}
+use Rattle.fair.specs.declared.Answer.the-variants.{Refused as FairRefused, Opened as FairOpened, Accepted as FairAccepted, Begun, Ended}
+use Rattle.fair.specs.Answers.{told as fairTold, refusalIn as fairRefusal}
 use Rattle.urgent.specs.declared.Urgent.{Urgent as UrgentLane}
 use Rattle.fair.specs.declared.Fair.{Fair as FairLane}
 use Rattle.urgent.specs.Calls.{openOf as openUrgentOf, offerOf as offerCellOf, turnOf}
@@ -10,9 +18,11 @@ use Rattle.fair.proofs.Refused.{refused-first as fair-first, refused-same as fa
 use Rattle.station.specs.declared.Station.{Station}
 use Rattle.station.specs.declared.Call.{Call}
 use Rattle.station.specs.declared.Call.the-variants.{OpenUrgent, OpenFair, OfferCell, OfferPacket, OpenTurn, LostTurn, Begin, End}
+use Rattle.station.specs.declared.Reply.{Reply}
 use Rattle.station.specs.declared.Reply.the-variants.{Urgent, Fair}
+use Rattle.station.specs.Answers.{told, refusalIn}
 use Rattle.station.specs.Calls.{callOf}
-use Rattle.station.specs.Laws.{RefusedFirst, RefusedSame, isUrgent, LanesApart}
+use Rattle.station.specs.Laws.{RefusedFirst, NumberTold, GroundsRise, RefusedSame, isUrgent, LanesApart}
 
 pub refused-first : RefusedFirst
 unfolding callOf
@@ -24,6 +34,38 @@ refused-first s OpenTurn = urgent-first (s .urgent) .turning true
 refused-first s LostTurn = urgent-first (s .urgent) .turning false
 refused-first s Begin = fair-first (s .fair) .beginning
 refused-first s End = fair-first (s .fair) .ending
+
+urgent-number : (a : UrgentAnswer) → urgentTold a .number ≡ numberIn (urgentRefusal a)
+urgent-number (Refused r) = refl
+urgent-number Opened = refl
+urgent-number (Accepted n l) = refl
+urgent-number (Sent f n m) = refl
+urgent-number (Idle m) = refl
+
+fair-number : (a : FairAnswer) → fairTold a .number ≡ numberIn (fairRefusal a)
+fair-number (FairRefused r) = refl
+fair-number FairOpened = refl
+fair-number (FairAccepted n s f) = refl
+fair-number (Begun f n l s) = refl
+fair-number (Ended f n l) = refl
+
+reply-number : (r : Reply) → told r .number ≡ numberIn (refusalIn r)
+reply-number (Urgent a) = urgent-number a
+reply-number (Fair a) = fair-number a
+
+pub number-told : NumberTold
+number-told s call = reply-number (callOf s call .reply) ∙ ap numberIn (refused-first s call)
+
+pub grounds-rise : GroundsRise
+unfolding risesFrom
+grounds-rise s (OpenUrgent flow deadline) = refl
+grounds-rise s (OpenFair flow weight) = refl
+grounds-rise s (OfferCell flow) = refl
+grounds-rise s (OfferPacket flow length) = refl
+grounds-rise s OpenTurn = refl
+grounds-rise s LostTurn = refl
+grounds-rise s Begin = refl
+grounds-rise s End = refl
 
 -- a station with one lane as it was
 urgent-back : (s : Station) (u : UrgentLane) → u ≡ s .urgent → record { urgent = u; fair = s .fair } ≡ s

@@ -3,7 +3,8 @@ use mathlib.Core.Path.{_≡_}
 use mathlib.Core.Bool.{Bool, true, false}
 use mathlib.Core.List.{List}
 use mathlib.Core.Option.{some}
-use Rattle.units.specs.Refusals.{Ground, firstOf}
+use Rattle.units.specs.Refusals.{Ground, firstOf, Rises}
+use Rattle.units.specs.Answers.{numberIn}
 use Rattle.units.specs.declared.Refusal.{Refusal}
 use Rattle.urgent.specs.Lane.{openingGrounds as urgentOpening, offeringGrounds as cellOffering, turnGrounds}
 use Rattle.fair.specs.Lane.{flowAt, waitingOf, startOf, beginGrounds, endGrounds}
@@ -12,7 +13,7 @@ use Rattle.station.specs.declared.Station.{Station}
 use Rattle.station.specs.declared.Call.{Call}
 use Rattle.station.specs.declared.Call.the-variants.{OpenUrgent, OpenFair, OfferCell, OfferPacket, OpenTurn, LostTurn, Begin, End}
 use Rattle.station.specs.Calls.{callOf}
-use Rattle.station.specs.Answers.{refusalIn}
+use Rattle.station.specs.Answers.{told, refusalIn}
 
 -- what a call may be refused for, in the order in which the refusals are given
 abbrev pub groundsOf : Station → Call → List Ground
@@ -28,6 +29,14 @@ groundsOf s End = endGrounds (s .fair)
 -- A call is refused exactly for the first of its grounds that holds.
 abbrev pub RefusedFirst : Type 0
 RefusedFirst = (s : Station) (call : Call) → refusalIn (callOf s call .reply) ≡ firstOf (groundsOf s call)
+
+-- The number that a reply tells is that of the first ground that holds, 0 where none does.
+abbrev pub NumberTold : Type 0
+NumberTold = (s : Station) (call : Call) → told (callOf s call .reply) .number ≡ numberIn (firstOf (groundsOf s call))
+
+-- The numbers of every call's grounds rise, so that the first that holds is the lowest.
+abbrev pub GroundsRise : Type 0
+GroundsRise = (s : Station) (call : Call) → Rises (groundsOf s call)
 
 -- A refused call leaves the station as it was.
 abbrev pub RefusedSame : Type 0
