@@ -115,7 +115,7 @@ pub record EndsAndNumbers (u : Fair) (h : Packets) : Type 0 where
   -- and no number comes near the end of its type
   pub fewNumbers : (flow : ℕ) → flow < 16 → flowAt u flow .next ≤ suc tagLimit
 
--- F4: virtual time never falls.
+-- F4, one step of it: neither the next begin nor the next end takes virtual time back.
 pub record NeverFalls (u : Fair) (h : Packets) : Type 0 where
   pub begins : virtualTime (h .moments) ≤ virtualTime (noteService h (beginOf u .answer) .moments)
   pub ends : virtualTime (h .moments) ≤ virtualTime (noteService h (endOf u .answer) .moments)
