@@ -1,0 +1,173 @@
+// Runs the urgent lane on the worked cases, on bad numbers, and on states written out that no session can reach.
+use libc::STDOUT_FILENO;
+use units::Slot;
+use urgent::Answer;
+use urgent::Cell;
+use urgent::Flow;
+use urgent::Urgent;
+
+// Writes a blank and a number.
+fn number(n: u64) {
+    io::write_all(STDOUT_FILENO, b" ");
+    io::print_decimal(STDOUT_FILENO, n);
+}
+
+// Writes an answer as a line.
+fn show(answer: Answer) {
+    match answer {
+        Answer::Refused(refusal) => {
+            io::write_all(STDOUT_FILENO, b"no");
+            number(refusal.number());
+        }
+        Answer::Opened => {
+            io::write_all(STDOUT_FILENO, b"ok");
+        }
+        Answer::Accepted(n, last) => {
+            io::write_all(STDOUT_FILENO, b"ok");
+            number(n);
+            number(last.0);
+        }
+        Answer::Sent(flow, n, missed) => {
+            io::write_all(STDOUT_FILENO, b"sent");
+            number(flow);
+            number(n);
+            io::write_all(STDOUT_FILENO, b" missed");
+            number(missed);
+        }
+        Answer::Idle(missed) => {
+            io::write_all(STDOUT_FILENO, b"idle missed");
+            number(missed);
+        }
+    }
+    io::write_all(STDOUT_FILENO, b"\n");
+}
+
+// Each call writes its answer and hands the lane on.
+fn open(lane: Urgent, flow: u64, deadline: u64) -> Urgent {
+    let done = lane.open(flow, deadline);
+    let answer = done.answer;
+    show(answer);
+    let after = done.lane;
+    after
+}
+
+fn offer(lane: Urgent, flow: u64) -> Urgent {
+    let done = lane.offer(flow);
+    let answer = done.answer;
+    show(answer);
+    let after = done.lane;
+    after
+}
+
+// Offers as many cells of a flow, one after the other.
+fn offers(lane: Urgent, flow: u64, times: u64) -> Urgent {
+    let mut after = lane;
+    let mut i: u64 = 0;
+    while i < times {
+        after = offer(after, flow);
+        i += 1;
+    }
+    after
+}
+
+fn turn(lane: Urgent, usable: bool) -> Urgent {
+    let done = lane.turn(usable);
+    let answer = done.answer;
+    show(answer);
+    let after = done.lane;
+    after
+}
+
+// A lane as before any call, but at slot n, with flow 0 open and one cell waiting at each of two places of it.
+fn written(n: u64, deadline: u64, next: u64, first: u64, second: u64) -> Urgent {
+    let mut lane = Urgent::fresh();
+    let now = Slot(n);
+    lane.now = now;
+    lane.flows[0] = Flow {
+        opened: true,
+        deadline: deadline,
+        next: next,
+    };
+    lane.cells[3] = Cell {
+        held: true,
+        number: 7,
+        last: Slot(first),
+    };
+    lane.cells[5] = Cell {
+        held: true,
+        number: 8,
+        last: Slot(second),
+    };
+    lane
+}
+
+// Writes a heading.
+fn case(name: &[u8]) {
+    io::write_all(STDOUT_FILENO, name);
+    io::write_all(STDOUT_FILENO, b"\n");
+}
+
+fn worked() {
+    case(b"D");
+    let mut d = open(open(Urgent::fresh(), 0, 3), 1, 1);
+    d = offer(offer(d, 0), 1);
+    turn(turn(d, true), true);
+    case(b"E");
+    turn(offer(open(Urgent::fresh(), 0, 1), 0), false);
+    case(b"F");
+    let f = offer(offer(offer(open(Urgent::fresh(), 0, 2), 0), 0), 0);
+    turn(turn(f, true), true);
+    case(b"G");
+    let g = offers(open(Urgent::fresh(), 15, 4096), 15, 17);
+    offer(turn(g, true), 15);
+    case(b"H");
+    let mut h = Urgent::fresh();
+    let now = Slot(3999999999);
+    h.now = now;
+    h = open(open(h, 0, 1), 1, 2);
+    h = offer(offer(h, 0), 1);
+    h = turn(turn(h, true), true);
+    offer(turn(h, false), 0);
+}
+
+fn bad_numbers() {
+    case(b"flow numbers");
+    let mut lane = open(open(Urgent::fresh(), 16, 1), 18446744073709551615, 0);
+    lane = offer(offer(lane, 16), 18446744073709551615);
+    case(b"deadlines");
+    lane = open(open(open(lane, 0, 0), 0, 4097), 0, 18446744073709551615);
+    lane = open(open(lane, 0, 4096), 0, 4096);
+    case(b"a shut flow");
+    offer(lane, 1);
+}
+
+fn unreachable_states() {
+    case(b"the last number");
+    offer(offer(written(5, 3, 18446744073709551615, 5, 6), 0), 0);
+    case(b"cells long gone");
+    turn(turn(turn(written(9, 3, 0, 1, 0), true), true), true);
+    case(b"two cells due now");
+    turn(written(9, 3, 0, 9, 9), false);
+    case(b"the last slots of all");
+    turn(
+        offer(
+            written(
+                18446744073709551615,
+                18446744073709551615,
+                0,
+                18446744073709551615,
+                3,
+            ),
+            0,
+        ),
+        true,
+    );
+    case(b"no deadline");
+    offer(written(0, 0, 0, 1, 1), 0);
+}
+
+fn main() {
+    worked();
+    bad_numbers();
+    unreachable_states();
+}
