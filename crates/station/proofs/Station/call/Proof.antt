@@ -1,117 +1,85 @@
-use Rattle.station.specs.Calls.{callOf}
+-- `Station::call` meets its contract: each call by its own method.
 use borrow.Author.Needs.{needs}
+use Rattle.station.specs.Calls.{callOf}
 use Rattle.station.proofs.Station.call.Statement.{statement}
 use Rattle.station.proofs.Station.call.Tie as tie
-use Rattle.station.proofs.Station.call.Reads as reads
-use Rattle.station.proofs.Station.call.Lts as lts
-use Rattle.station.proofs.Station.begin.Reads as begin-reads
-use Rattle.station.proofs.Station.end.Reads as end-reads
-use Rattle.station.proofs.Station.offer_cell.Reads as offer-cell-reads
-use Rattle.station.proofs.Station.offer_packet.Reads as offer-packet-reads
-use Rattle.station.proofs.Station.open_fair.Reads as open-fair-reads
-use Rattle.station.proofs.Station.open_urgent.Reads as open-urgent-reads
-use Rattle.station.proofs.Station.turn.Reads as turn-reads
 
--- src/lib.rt:168:30
 enum-known-call : tie.Need-enum-known-call
 enum-known-call c = search needs
 
--- src/lib.rt:168:49
 open-urgent-requires : tie.Need-open-urgent-requires
 open-urgent-requires c κs = search needs
 
--- src/lib.rt:169:28
 enum-known-call-2 : tie.Need-enum-known-call-2
 enum-known-call-2 c = search needs
 
--- src/lib.rt:169:45
 open-fair-requires : tie.Need-open-fair-requires
 open-fair-requires c κs = search needs
 
--- src/lib.rt:170:29
 enum-known-call-3 : tie.Need-enum-known-call-3
 enum-known-call-3 c = search needs
 
--- src/lib.rt:170:38
 offer-cell-requires : tie.Need-offer-cell-requires
 offer-cell-requires c κs = search needs
 
--- src/lib.rt:171:31
 enum-known-call-4 : tie.Need-enum-known-call-4
 enum-known-call-4 c = search needs
 
--- src/lib.rt:171:48
 offer-packet-requires : tie.Need-offer-packet-requires
 offer-packet-requires c κs = search needs
 
--- src/lib.rt:172:31
 enum-told : tie.Need-enum-told
 enum-told c = search needs
 
--- src/lib.rt:172:31
 turn-requires : tie.Need-turn-requires
 turn-requires c κs = search needs
 
--- src/lib.rt:173:31
 enum-told-2 : tie.Need-enum-told-2
 enum-told-2 c = search needs
 
--- src/lib.rt:173:31
 turn-requires-2 : tie.Need-turn-requires-2
 turn-requires-2 c κs = search needs
 
--- src/lib.rt:174:28
 enum-told-3 : tie.Need-enum-told-3
 enum-told-3 c = search needs
 
--- src/lib.rt:174:28
 begin-requires : tie.Need-begin-requires
 begin-requires c κs = search needs
 
--- src/lib.rt:175:26
 enum-told-4 : tie.Need-enum-told-4
 enum-told-4 c = search needs
 
--- src/lib.rt:175:26
 end-requires : tie.Need-end-requires
 end-requires c κs = search needs
 
--- src/lib.rt:164:5
 returns : tie.Need-returns
 unfolding callOf
 returns c = rw (c .before .before .call .given .1) (c .open-urgent .ensures)
 
--- src/lib.rt:164:5
 returns-2 : tie.Need-returns-2
 unfolding callOf
 returns-2 c = rw (c .before .before .call2 .given .1) (c .open-fair .ensures)
 
--- src/lib.rt:164:5
 returns-3 : tie.Need-returns-3
 unfolding callOf
 returns-3 c = rw (c .before .before .call3 .given .1) (c .offer-cell .ensures)
 
--- src/lib.rt:164:5
 returns-4 : tie.Need-returns-4
 unfolding callOf
 returns-4 c = rw (c .before .before .call4 .given .1) (c .offer-packet .ensures)
 
--- src/lib.rt:164:5
 returns-5 : tie.Need-returns-5
 unfolding callOf
 returns-5 c = rw (c .before .enum-told .given .1) (c .turn .ensures)
 
--- src/lib.rt:164:5
 returns-6 : tie.Need-returns-6
 unfolding callOf
 returns-6 c = rw (c .before .enum-told2 .given .1) (c .turn2 .ensures)
 
--- src/lib.rt:164:5
 returns-7 : tie.Need-returns-7
 unfolding callOf
 returns-7 c = rw (c .before .enum-told3 .given .1) (c .begin .ensures)
 
--- src/lib.rt:164:5
 returns-8 : tie.Need-returns-8
 unfolding callOf
 returns-8 c = rw (c .before .enum-told4 .given .1) (c .end .ensures)

@@ -1,15 +1,11 @@
+-- `Station::offer_packet` meets its contract: the lane's own answer, and the other lane as it was.
 use borrow.Author.Needs.{needs}
 use Rattle.station.proofs.Station.offer_packet.Statement.{statement}
 use Rattle.station.proofs.Station.offer_packet.Tie as tie
-use Rattle.station.proofs.Station.offer_packet.Reads as reads
-use Rattle.station.proofs.Station.offer_packet.Lts as lts
-use Rattle.fair.proofs.Fair.offer.Reads as offer-reads
 
--- src/lib.rt:108:13
 offer-requires : tie.Need-offer-requires
 offer-requires c κs = search needs
 
--- src/lib.rt:104:5
 returns : tie.Need-returns
 returns c = rw (c .before .offer .ensures)
 

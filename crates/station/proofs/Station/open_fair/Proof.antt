@@ -1,15 +1,11 @@
+-- `Station::open_fair` meets its contract: the lane's own answer, and the other lane as it was.
 use borrow.Author.Needs.{needs}
 use Rattle.station.proofs.Station.open_fair.Statement.{statement}
 use Rattle.station.proofs.Station.open_fair.Tie as tie
-use Rattle.station.proofs.Station.open_fair.Reads as reads
-use Rattle.station.proofs.Station.open_fair.Lts as lts
-use Rattle.fair.proofs.Fair.open.Reads as open-reads
 
--- src/lib.rt:78:13
 open-requires : tie.Need-open-requires
 open-requires c κs = search needs
 
--- src/lib.rt:74:5
 returns : tie.Need-returns
 returns c = rw (c .before .«open» .ensures)
 

@@ -1,15 +1,11 @@
+-- `Station::open_urgent` meets its contract: the lane's own answer, and the other lane as it was.
 use borrow.Author.Needs.{needs}
 use Rattle.station.proofs.Station.open_urgent.Statement.{statement}
 use Rattle.station.proofs.Station.open_urgent.Tie as tie
-use Rattle.station.proofs.Station.open_urgent.Reads as reads
-use Rattle.station.proofs.Station.open_urgent.Lts as lts
-use Rattle.urgent.proofs.Urgent.open.Reads as open-reads
 
--- src/lib.rt:63:13
 open-requires : tie.Need-open-requires
 open-requires c κs = search needs
 
--- src/lib.rt:59:5
 returns : tie.Need-returns
 returns c = rw (c .before .«open» .ensures)
 

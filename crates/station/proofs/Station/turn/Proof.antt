@@ -1,15 +1,11 @@
+-- `Station::turn` meets its contract: the lane's own answer, and the other lane as it was.
 use borrow.Author.Needs.{needs}
 use Rattle.station.proofs.Station.turn.Statement.{statement}
 use Rattle.station.proofs.Station.turn.Tie as tie
-use Rattle.station.proofs.Station.turn.Reads as reads
-use Rattle.station.proofs.Station.turn.Lts as lts
-use Rattle.urgent.proofs.Urgent.turn.Reads as turn-reads
 
--- src/lib.rt:123:13
 turn-requires : tie.Need-turn-requires
 turn-requires c κs = search needs
 
--- src/lib.rt:119:5
 returns : tie.Need-returns
 returns c = rw (c .before .turn .ensures)
 
