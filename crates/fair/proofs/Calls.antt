@@ -6,7 +6,7 @@ use Prim.Native.Nat.{ℕ, _+_, _*_, _≤_, _<_}
 use native.Mathlib.Omega.{arith}
 use borrow.Author.Tests.{lt-ltb, le-ltb, le-leb, lt-leb, eq-eqb, ne-eqb}
 use lib.Dec.{eqb}
-use lib.ListN.{length, getD, set}
+use lib.ListN.{length, set}
 use Rattle.units.specs.Limits.{placeCount, tagLimit, badWeight, badLength}
 use Rattle.units.specs.Refusals.{firstOf}
 use Rattle.units.specs.declared.Tag.{Tag}
@@ -15,6 +15,7 @@ use Rattle.places.specs.Places.{count, placesOf, firstFree}
 use Rattle.places.specs.Choice.{nothing, at}
 use Rattle.places.proofs.Free.{part-full, part-room}
 use Rattle.places.proofs.Least.{none-held, some-held}
+use Rattle.tags.specs.declared.Packet.{Packet}
 use Rattle.tags.specs.declared.Finish.{Finish}
 use Rattle.tags.specs.declared.Finish.the-variants.{At, Beyond}
 use Rattle.tags.specs.Tags.{freePacket, isHeld, finishOf}
@@ -114,10 +115,10 @@ module _ (u : Fair) where
     begin-9 e =
         sym (ap (λ (t : Bool). by-tests t (eqb (waiting u) 0)) o ∙ ap (by-tests false) (eq-eqb (waiting u) 0 (none-held isHeld keyOf freePacket refl (u .packets) e)))
 
-    pub begin-ok : (place : ℕ) → chosen u ≡ at place (getD (u .packets) place freePacket) → begun u (at place (getD (u .packets) place freePacket)) ≡ beginOf u
+    pub begin-ok : (place : ℕ) (p : Packet) → chosen u ≡ at place p → begun u (at place p) ≡ beginOf u
     unfolding beginOf firstOf by-tests
-    begin-ok place e =
-        let w = some-held isHeld keyOf freePacket refl (u .packets) place (getD (u .packets) place freePacket) e in
+    begin-ok place p e =
+        let w = some-held isHeld keyOf freePacket refl (u .packets) place p e in
         sym (ap (λ (t : Bool). by-tests t (eqb (waiting u) 0)) o ∙ ap (by-tests false) (ne-eqb (waiting u) 0 (λ z. omega arith)) ∙ ap (begun u) e)
 
   pub end-10 : not (u .service .busy) ≡ true → refused u NothingInService ≡ endOf u

@@ -12,6 +12,7 @@ use units::Refusal;
 use units::Tag;
 
 // The service: idle, or busy with the packet of this flow, number, length in bytes and finish tag.
+#[repr(C)]
 pub struct Service {
     pub busy: bool,
     pub flow: u64,
@@ -22,6 +23,7 @@ pub struct Service {
 
 // The lane: the virtual time, the largest finish tag of all packets ended, the service, the flows, and the places, of which flow f has
 // those from 16 f on.
+#[repr(C)]
 pub struct Fair {
     pub time: Tag,
     pub ended: Tag,
@@ -80,7 +82,7 @@ impl Fair {
     }
 
     // Opens a flow with a weight.
-    pub fn open(mut self, flow: u64, weight: u64) -> Done
+    pub fn open(self, flow: u64, weight: u64) -> Done
         ensures { λ r. ⌜ r ≡ openOf self flow weight ⌝ }
     {
         if LAST_FLOW < flow {
@@ -90,7 +92,8 @@ impl Fair {
             };
         }
         let f = flow as usize;
-        let was = self.flows[f];
+        let mut flows = self.flows;
+        let was = flows[f];
         if was.opened {
             return Done {
                 lane: self,
@@ -104,14 +107,24 @@ impl Fair {
             };
         }
         let finish = was.finish;
-        self.flows[f] = Flow {
+        flows[f] = Flow {
             opened: true,
             weight: weight,
             next: was.next,
             finish: finish,
         };
+        let time = self.time;
+        let ended = self.ended;
+        let service = self.service;
+        let packets = self.packets;
         Done {
-            lane: self,
+            lane: Fair {
+                time,
+                ended,
+                service,
+                flows,
+                packets,
+            },
             answer: Answer::Opened,
         }
     }

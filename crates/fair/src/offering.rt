@@ -13,7 +13,7 @@ use units::TAG_LIMIT;
 
 impl Fair {
     // Offers a packet of a flow, of this length in bytes.
-    pub fn offer(mut self, flow: u64, length: u64) -> Done
+    pub fn offer(self, flow: u64, length: u64) -> Done
         ensures { λ r. ⌜ r ≡ offerOf self flow length ⌝ }
     {
         if LAST_FLOW < flow {
@@ -23,7 +23,8 @@ impl Fair {
             };
         }
         let f = flow as usize;
-        let was = self.flows[f];
+        let mut flows = self.flows;
+        let was = flows[f];
         if !was.opened {
             return Done {
                 lane: self,
@@ -36,11 +37,12 @@ impl Fair {
                 answer: Answer::Refused(Refusal::BeyondLimit),
             };
         }
+        let mut packets = self.packets;
         let mut k: usize = 16;
         let mut i: usize = 16;
         while 0 < i {
             i -= 1;
-            let p = self.packets[f * 16 + i];
+            let p = packets[f * 16 + i];
             if !p.held {
                 k = i;
             }
@@ -61,30 +63,36 @@ impl Fair {
         let last = was.finish;
         let start = tags::later(time, last);
         let ends = tags::finish_of(start, length, was.weight);
-        match ends {
-            Finish::Beyond => Done {
+        let Finish::At(finish) = ends else {
+            return Done {
                 lane: self,
                 answer: Answer::Refused(Refusal::TagsUsedUp),
+            };
+        };
+        packets[f * 16 + k] = Packet {
+            held: true,
+            number: was.next,
+            length: length,
+            start: start,
+            finish: finish,
+        };
+        flows[f] = Flow {
+            opened: true,
+            weight: was.weight,
+            next: was.next + 1,
+            finish: finish,
+        };
+        let ended = self.ended;
+        let service = self.service;
+        Done {
+            lane: Fair {
+                time,
+                ended,
+                service,
+                flows,
+                packets,
             },
-            Finish::At(finish) => {
-                self.packets[f * 16 + k] = Packet {
-                    held: true,
-                    number: was.next,
-                    length: length,
-                    start: start,
-                    finish: finish,
-                };
-                self.flows[f] = Flow {
-                    opened: true,
-                    weight: was.weight,
-                    next: was.next + 1,
-                    finish: finish,
-                };
-                Done {
-                    lane: self,
-                    answer: Answer::Accepted(was.next, start, finish),
-                }
-            }
+            answer: Answer::Accepted(was.next, start, finish),
         }
     }
 }

@@ -1,6 +1,8 @@
 // Taking a packet into service, and ending it.
 ghost use mathlib.Core.Path.{_≡_};
+ghost use mathlib.Core.Bool.{not, _&&_, _||_};
 ghost use Rattle.places.specs.Choice.{comesBefore};
+ghost use Rattle.tags.specs.Tags.{isHeld};
 ghost use Rattle.fair.specs.Lane.{keyOf};
 ghost use Rattle.fair.specs.Calls.{beginOf, endOf};
 use crate::Answer;
@@ -13,7 +15,7 @@ use units::Tag;
 
 impl Fair {
     // Takes the waiting packet with the smallest start tag into service.
-    pub fn begin(mut self) -> Done
+    pub fn begin(self) -> Done
         ensures { λ r. ⌜ r ≡ beginOf self ⌝ }
     {
         let service = self.service;
@@ -23,19 +25,21 @@ impl Fair {
                 answer: Answer::Refused(Refusal::PacketInService),
             };
         }
+        let mut packets = self.packets;
         let mut best: usize = 256;
+        let mut taken = Packet {
+            held: false,
+            number: 0,
+            length: 0,
+            start: Tag(0),
+            finish: Tag(0),
+        };
         let mut i: usize = 0;
         while i < 256 {
-            let p = self.packets[i];
-            if p.held {
-                if best < 256 {
-                    let b = self.packets[best];
-                    if goes_before(p, i, b, best) {
-                        best = i;
-                    }
-                } else {
-                    best = i;
-                }
+            let p = packets[i];
+            if goes_first(p, i, taken, best) {
+                best = i;
+                taken = p;
             }
             i += 1;
         }
@@ -46,8 +50,7 @@ impl Fair {
             };
         }
         let flow = (best / 16) as u64;
-        let taken = self.packets[best];
-        self.packets[best] = Packet {
+        packets[best] = Packet {
             held: false,
             number: 0,
             length: 0,
@@ -63,16 +66,22 @@ impl Fair {
             length: taken.length,
             finish: finish,
         };
-        self.time = start;
-        self.service = served;
+        let ended = self.ended;
+        let flows = self.flows;
         Done {
-            lane: self,
+            lane: Fair {
+                time: start,
+                ended,
+                service: served,
+                flows,
+                packets,
+            },
             answer: Answer::Begun(flow, taken.number, taken.length, start),
         }
     }
 
     // Ends the packet in service.
-    pub fn end(mut self) -> Done
+    pub fn end(self) -> Done
         ensures { λ r. ⌜ r ≡ endOf self ⌝ }
     {
         let service = self.service;
@@ -82,10 +91,11 @@ impl Fair {
                 answer: Answer::Refused(Refusal::NothingInService),
             };
         }
+        let packets = self.packets;
         let mut waiting: u64 = 0;
         let mut i: usize = 0;
         while i < 256 {
-            let p = self.packets[i];
+            let p = packets[i];
             if p.held {
                 waiting += 1;
             }
@@ -101,16 +111,35 @@ impl Fair {
             length: 0,
             finish: Tag(0),
         };
-        self.ended = largest;
-        self.service = idle;
+        let mut time = self.time;
         if waiting == 0 {
-            self.time = largest;
+            time = largest;
         }
+        let flows = self.flows;
         Done {
-            lane: self,
+            lane: Fair {
+                time,
+                ended: largest,
+                service: idle,
+                flows,
+                packets,
+            },
             answer: Answer::Ended(service.flow, service.number, service.length),
         }
     }
+}
+
+// Whether the packet at place k goes before all that the scan met so far: the waiting packet b at place j, or none if b is free.
+fn goes_first(p: Packet, k: usize, b: Packet, j: usize) -> bool
+    ensures { λ r. ⌜ r ≡ (isHeld p && (not (isHeld b) || comesBefore (keyOf k p) (keyOf j b))) ⌝ }
+{
+    if !p.held {
+        return false;
+    }
+    if !b.held {
+        return true;
+    }
+    goes_before(p, k, b, j)
 }
 
 // Whether the waiting packet p at place k goes before the waiting packet b at place j.

@@ -1,10 +1,8 @@
--- The least held place: each step of a scan for it, and that what is found is held and nothing held comes before it.
+-- The least held place: that what is found is held and nothing held comes before it.
 use mathlib.Core.Path.{_≡_, refl, sym, ap, _∙_, subst}
-use mathlib.Core.Logic.{_⊎_, inl, inr}
 use mathlib.Core.Bool.{Bool, true, false, cond, _&&_, false≢true}
 use mathlib.Core.List.{List, [], _∷_}
-use Prim.Native.Nat.{ℕ, zero, suc, _+_, _≤_, _<_}
-use native.Mathlib.Numerals.{add-one}
+use Prim.Native.Nat.{ℕ, zero, suc, _+_, _<_}
 use native.Mathlib.Omega.{arith}
 use lib.ListN.{length, getD, drop, drop-of-length-le}
 use lib.Seq.{drop-cons}
@@ -12,62 +10,6 @@ use Rattle.places.specs.Places.{count}
 use Rattle.places.specs.Choice.{Key, comesBefore, Choice, nothing, at, better, least, leastHeld, Leads}
 use Rattle.places.proofs.Count.{count-none, count-some}
 use Rattle.places.proofs.Order.{not-self, not-earlier}
-
--- a scan has come to place i of n with the place `best`, n while none is held
-module _ {A : Type 0} (held : A → Bool) (key : ℕ → A → Key) (d : A) (n : ℕ) where
-  step : (best : Choice A) (xs : List A) (i : ℕ) → i < length xs
-      → least held key best i (drop i xs) ≡ least held key (better held key best i (getD xs i d)) (i + 1) (drop (i + 1) xs)
-  unfolding least
-  step best xs i h = rw (add-one, drop-cons xs i d)
-
-  abbrev pub Best : List A → ℕ → ℕ → Type 0
-  Best xs best i =
-      ((best ≡ n) × (leastHeld held key xs ≡ least held key nothing i (drop i xs)))
-      ⊎ ((best < i) × (leastHeld held key xs ≡ least held key (at best (getD xs best d)) i (drop i xs)))
-
-  pub best-starts : (xs : List A) → Best xs n 0
-  best-starts xs = inl (refl, refl)
-
-  module _ (xs : List A) (best i : ℕ) (l : length xs ≡ n) (p : i < n) where
-    pub best-free : Best xs best i → held (getD xs i d) ≡ false → Best xs best (i + 1)
-    unfolding better
-    best-free (inl q) f = inl (q .0, q .1 ∙ step nothing xs i (omega arith) ∙ rw f)
-    best-free (inr q) f = inr (omega arith, q .1 ∙ step (at best (getD xs best d)) xs i (omega arith) ∙ rw f)
-
-    pub best-first : Best xs best i → held (getD xs i d) ≡ true → n ≤ best → Best xs i (i + 1)
-    unfolding better
-    best-first (inl q) f h = inr (omega arith, q .1 ∙ step nothing xs i (omega arith) ∙ rw f)
-    best-first (inr q) f h = absurd (omega arith)
-
-    module _ (q : Best xs best i) (f : held (getD xs i d) ≡ true) (h : best < n) where
-      pub best-new : comesBefore (key i (getD xs i d)) (key best (getD xs best d)) ≡ true → Best xs i (i + 1)
-      unfolding better
-      best-new s = go q
-        where
-          go : Best xs best i → Best xs i (i + 1)
-          go (inl r) = absurd (omega arith)
-          go (inr r) = inr (omega arith, r .1 ∙ step (at best (getD xs best d)) xs i (omega arith) ∙ rw (f, s))
-
-      pub best-kept : comesBefore (key i (getD xs i d)) (key best (getD xs best d)) ≡ false → Best xs best (i + 1)
-      unfolding better
-      best-kept s = go q
-        where
-          go : Best xs best i → Best xs best (i + 1)
-          go (inl r) = absurd (omega arith)
-          go (inr r) = inr (omega arith, r .1 ∙ step (at best (getD xs best d)) xs i (omega arith) ∙ rw (f, s))
-
-  ends : (best : Choice A) (xs : List A) (i : ℕ) → length xs ≤ i → least held key best i (drop i xs) ≡ best
-  unfolding least
-  ends best xs i h = rw (drop-of-length-le xs h)
-
-  -- what the scan has found in the end
-  pub best-none : (xs : List A) (best i : ℕ) → Best xs best i → length xs ≡ n → n ≤ i → i ≤ n → n ≤ best → leastHeld held key xs ≡ nothing
-  best-none xs best i (inl q) l h h′ b = q .1 ∙ ends nothing xs i (omega arith)
-  best-none xs best i (inr q) l h h′ b = absurd (omega arith)
-
-  pub best-found : (xs : List A) (best i : ℕ) → Best xs best i → length xs ≡ n → n ≤ i → best < n → leastHeld held key xs ≡ at best (getD xs best d)
-  best-found xs best i (inl q) l h b = absurd (omega arith)
-  best-found xs best i (inr q) l h b = q .1 ∙ ends (at best (getD xs best d)) xs i (omega arith)
 
 -- that the choice leads
 module _ {A : Type 0} (held : A → Bool) (key : ℕ → A → Key) (free : A) (unheld : held free ≡ false) where

@@ -3,6 +3,7 @@ pub mod CountAt
 pub mod Free
 pub mod Order
 pub mod Least
+pub mod Scan
 pub mod Clear
 pub mod Apart
 pub mod Members

@@ -5,6 +5,7 @@ use units::TAG_LIMIT;
 use units::Tag;
 
 // A flow: whether it is open, its weight, the number of its next packet, and the finish tag of its last.
+#[repr(C)]
 pub struct Flow {
     pub opened: bool,
     pub weight: u64,
@@ -13,6 +14,7 @@ pub struct Flow {
 }
 
 // A place: free, or held by the waiting packet of this number, length in bytes, start tag and finish tag.
+#[repr(C)]
 pub struct Packet {
     pub held: bool,
     pub number: u64,

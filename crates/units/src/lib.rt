@@ -8,9 +8,11 @@ ghost use Rattle.units.specs.Charges.{chargeOf};
 ghost use Rattle.units.specs.Radio.{slotsPassed};
 
 // A turn of the radio, counted from 0.
+#[repr(C)]
 pub struct Slot(pub u64);
 
 // A moment of the fair lane, counted in shares of a byte: 720,720 to a byte at weight 1.
+#[repr(C)]
 pub struct Tag(pub u64);
 
 // Why a call was refused.

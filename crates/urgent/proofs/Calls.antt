@@ -1,11 +1,11 @@
 -- Each case of what a call gives, from the tests that lead to it.
 use mathlib.Core.Path.{_≡_}
-use mathlib.Core.Bool.{Bool, true, false, not}
+use mathlib.Core.Bool.{Bool, true, false, not, cond}
 use mathlib.Core.List.{List}
 use Prim.Native.Nat.{ℕ, _+_, _-_, _*_, _%_, _/_, _^_, _≤_, _<_}
 use native.Mathlib.Omega.{arith}
 use borrow.Author.Tests.{lt-ltb, le-ltb, le-leb, lt-leb}
-use lib.ListN.{length, getD, set}
+use lib.ListN.{length, set}
 use Rattle.units.specs.Limits.{placeCount, slotLimit, badDeadline}
 use Rattle.units.specs.Refusals.{firstOf}
 use Rattle.units.specs.declared.Refusal.the-variants.{NoSuchFlow, NotOpen, AlreadyOpen, BeyondLimit, PlacesFull, SlotsUsedUp}
@@ -14,6 +14,7 @@ use Rattle.places.specs.Choice.{nothing, at}
 use Rattle.places.proofs.Free.{part-full, part-room}
 use Rattle.urgent.specs.declared.Cell.{Cell}
 use Rattle.urgent.specs.declared.Urgent.{Urgent}
+use Rattle.urgent.specs.declared.Answer.{Answer}
 use Rattle.urgent.specs.declared.Answer.the-variants.{Accepted, Sent, Idle}
 use Rattle.urgent.specs.Lane.{freeCell, isHeld, flowAt, lastIs}
 use Rattle.urgent.specs.Calls.{refused, opened, openOf, offerOf, chosen, turnOf}
@@ -81,18 +82,16 @@ module _ (u : Urgent) (usable : Bool) where
   unfolding turnOf firstOf
   turn-7 h = rw (le-leb slotLimit (u .now .0) h)
 
-  module _ (h : u .now .0 < slotLimit) (cells : List Cell) (missed : ℕ) where
-    pub turn-sent : (place : ℕ) → chosen u usable ≡ at place (getD (u .cells) place freeCell)
+  -- the answer tells of the cell c from a place, or of none where c is free
+  module _ (h : u .now .0 < slotLimit) (cells : List Cell) (missed place : ℕ) (c : Cell) (answer : Answer) (told : answer ≡ cond (isHeld c) (Sent (place / 16) (c .number) missed) (Idle missed)) where
+    pub turn-sent : isHeld c ≡ true → chosen u usable ≡ at place c
         → (cells ≡ clearedAll (lastIs (u .now .0)) freeCell (set (u .cells) place freeCell)) × (missed ≡ count (lastIs (u .now .0)) (set (u .cells) place freeCell))
-        → record {
-          lane = record { now = record { 0 = u .now .0 + 1 }; flows = u .flows; cells = cells };
-          answer = Sent (place / 16) (getD (u .cells) place freeCell .number) missed;
-        } ≡ turnOf u usable
+        → record { lane = record { now = record { 0 = u .now .0 + 1 }; flows = u .flows; cells = cells }; answer = answer } ≡ turnOf u usable
     unfolding turnOf firstOf
-    turn-sent place e q = rw (lt-leb slotLimit (u .now .0) h, e, q .0, q .1)
+    turn-sent t e q = rw (lt-leb slotLimit (u .now .0) h, e, told, t, q .0, q .1)
 
-    pub turn-idle : chosen u usable ≡ nothing
+    pub turn-idle : isHeld c ≡ false → chosen u usable ≡ nothing
         → (cells ≡ clearedAll (lastIs (u .now .0)) freeCell (u .cells)) × (missed ≡ count (lastIs (u .now .0)) (u .cells))
-        → record { lane = record { now = record { 0 = u .now .0 + 1 }; flows = u .flows; cells = cells }; answer = Idle missed } ≡ turnOf u usable
+        → record { lane = record { now = record { 0 = u .now .0 + 1 }; flows = u .flows; cells = cells }; answer = answer } ≡ turnOf u usable
     unfolding turnOf firstOf
-    turn-idle e q = rw (lt-leb slotLimit (u .now .0) h, e, q .0, q .1)
+    turn-idle t e q = rw (lt-leb slotLimit (u .now .0) h, e, told, t, q .0, q .1)

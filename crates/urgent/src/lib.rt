@@ -10,6 +10,7 @@ use units::Refusal;
 use units::Slot;
 
 // A place: free, or held by the waiting cell of this number and last slot.
+#[repr(C)]
 pub struct Cell {
     pub held: bool,
     pub number: u64,
@@ -17,6 +18,7 @@ pub struct Cell {
 }
 
 // A flow: whether it is open, its deadline in slots, and the number of its next cell.
+#[repr(C)]
 pub struct Flow {
     pub opened: bool,
     pub deadline: u64,
@@ -24,6 +26,7 @@ pub struct Flow {
 }
 
 // The lane: the next slot to come, the flows, and the places, of which flow f has those from 16 f on.
+#[repr(C)]
 pub struct Urgent {
     pub now: Slot,
     pub flows: [Flow; 16],
@@ -69,7 +72,7 @@ impl Urgent {
     }
 
     // Opens a flow with a deadline.
-    pub fn open(mut self, flow: u64, deadline: u64) -> Done
+    pub fn open(self, flow: u64, deadline: u64) -> Done
         ensures { λ r. ⌜ r ≡ openOf self flow deadline ⌝ }
     {
         if LAST_FLOW < flow {
@@ -79,7 +82,8 @@ impl Urgent {
             };
         }
         let f = flow as usize;
-        let was = self.flows[f];
+        let mut flows = self.flows;
+        let was = flows[f];
         if was.opened {
             return Done {
                 lane: self,
@@ -92,13 +96,15 @@ impl Urgent {
                 answer: Answer::Refused(Refusal::BeyondLimit),
             };
         }
-        self.flows[f] = Flow {
+        flows[f] = Flow {
             opened: true,
             deadline: deadline,
             next: was.next,
         };
+        let now = self.now;
+        let cells = self.cells;
         Done {
-            lane: self,
+            lane: Urgent { now, flows, cells },
             answer: Answer::Opened,
         }
     }

@@ -14,7 +14,7 @@ use units::Slot;
 
 impl Urgent {
     // Offers a cell of a flow.
-    pub fn offer(mut self, flow: u64) -> Done
+    pub fn offer(self, flow: u64) -> Done
         ensures { λ r. ⌜ r ≡ offerOf self flow ⌝ }
     {
         if LAST_FLOW < flow {
@@ -24,18 +24,20 @@ impl Urgent {
             };
         }
         let f = flow as usize;
-        let was = self.flows[f];
+        let mut flows = self.flows;
+        let was = flows[f];
         if !was.opened {
             return Done {
                 lane: self,
                 answer: Answer::Refused(Refusal::NotOpen),
             };
         }
+        let mut cells = self.cells;
         let mut k: usize = 16;
         let mut i: usize = 16;
         while 0 < i {
             i -= 1;
-            let c = self.cells[f * 16 + i];
+            let c = cells[f * 16 + i];
             if !c.held {
                 k = i;
             }
@@ -46,7 +48,8 @@ impl Urgent {
                 answer: Answer::Refused(Refusal::PlacesFull),
             };
         }
-        let now = self.now.0;
+        let slot = self.now;
+        let now = slot.0;
         if units::passes(now, was.deadline, SLOT_LIMIT) {
             return Done {
                 lane: self,
@@ -54,19 +57,23 @@ impl Urgent {
             };
         }
         let last = before(now + was.deadline);
-        self.cells[f * 16 + k] = Cell {
+        cells[f * 16 + k] = Cell {
             held: true,
             number: was.next,
             last: Slot(last),
         };
         let next = std::num::wrapping_add_u64(was.next, 1);
-        self.flows[f] = Flow {
+        flows[f] = Flow {
             opened: true,
             deadline: was.deadline,
             next: next,
         };
         Done {
-            lane: self,
+            lane: Urgent {
+                now: slot,
+                flows,
+                cells,
+            },
             answer: Answer::Accepted(was.next, Slot(last)),
         }
     }

@@ -1,7 +1,11 @@
 // A turn of the radio.
 ghost use mathlib.Core.Path.{_≡_};
+ghost use mathlib.Core.Bool.{not, cond, _&&_, _||_};
+ghost use Rattle.units.specs.Limits.{placeCount};
+ghost use Rattle.places.specs.Places.{flowOf};
 ghost use Rattle.places.specs.Choice.{comesBefore};
-ghost use Rattle.urgent.specs.Lane.{keyOf, lastIs};
+ghost use Rattle.urgent.specs.declared.Answer.the-variants.{Sent, Idle};
+ghost use Rattle.urgent.specs.Lane.{isHeld, keyOf, lastIs};
 ghost use Rattle.urgent.specs.Calls.{turnOf};
 use crate::Answer;
 use crate::Cell;
@@ -13,7 +17,7 @@ use units::Slot;
 
 impl Urgent {
     // A turn of the radio, open or lost: an open one sends a cell if any waits, and after either the cells whose last slot it was are dropped.
-    pub fn turn(mut self, usable: bool) -> Done
+    pub fn turn(self, usable: bool) -> Done
         ensures { λ r. ⌜ r ≡ turnOf self usable ⌝ }
     {
         let now = self.now.0;
@@ -23,29 +27,26 @@ impl Urgent {
                 answer: Answer::Refused(Refusal::SlotsUsedUp),
             };
         }
+        let mut cells = self.cells;
         let mut best: usize = 256;
+        let mut sent = Cell {
+            held: false,
+            number: 0,
+            last: Slot(0),
+        };
         if usable {
             let mut i: usize = 0;
             while i < 256 {
-                let c = self.cells[i];
-                if c.held {
-                    if best < 256 {
-                        let b = self.cells[best];
-                        if goes_before(c, i, b, best) {
-                            best = i;
-                        }
-                    } else {
-                        best = i;
-                    }
+                let c = cells[i];
+                if goes_first(c, i, sent, best) {
+                    best = i;
+                    sent = c;
                 }
                 i += 1;
             }
         }
-        let mut number: u64 = 0;
         if best < 256 {
-            let c = self.cells[best];
-            number = c.number;
-            self.cells[best] = Cell {
+            cells[best] = Cell {
                 held: false,
                 number: 0,
                 last: Slot(0),
@@ -54,9 +55,9 @@ impl Urgent {
         let mut missed: u64 = 0;
         let mut i: usize = 0;
         while i < 256 {
-            let c = self.cells[i];
+            let c = cells[i];
             if expires(c, now) {
-                self.cells[i] = Cell {
+                cells[i] = Cell {
                     held: false,
                     number: 0,
                     last: Slot(0),
@@ -66,19 +67,30 @@ impl Urgent {
             i += 1;
         }
         let next = Slot(now + 1);
-        self.now = next;
-        if best < 256 {
-            let flow = (best / 16) as u64;
-            return Done {
-                lane: self,
-                answer: Answer::Sent(flow, number, missed),
-            };
-        }
+        let flows = self.flows;
+        let answer = told(best, sent, missed);
         Done {
-            lane: self,
-            answer: Answer::Idle(missed),
+            lane: Urgent {
+                now: next,
+                flows: flows,
+                cells: cells,
+            },
+            answer: answer,
         }
     }
+}
+
+// Whether the cell at place k goes before all that the scan met so far: the waiting cell b at place j, or none if b is free.
+fn goes_first(c: Cell, k: usize, b: Cell, j: usize) -> bool
+    ensures { λ r. ⌜ r ≡ (isHeld c && (not (isHeld b) || comesBefore (keyOf k c) (keyOf j b))) ⌝ }
+{
+    if !c.held {
+        return false;
+    }
+    if !b.held {
+        return true;
+    }
+    goes_before(c, k, b, j)
 }
 
 // Whether the waiting cell c at place k goes before the waiting cell b at place j.
@@ -108,4 +120,15 @@ fn expires(c: Cell, now: u64) -> bool
         return c.last.0 == now;
     }
     false
+}
+
+// What a turn is answered that sent cell c from place k and missed so many; none was sent if c is free.
+fn told(k: usize, c: Cell, missed: u64) -> Answer
+    ensures { λ r. ⌜ r ≡ cond (isHeld c) (Sent (flowOf placeCount k) (c .number) missed) (Idle missed) ⌝ }
+{
+    if c.held {
+        let flow = (k / 16) as u64;
+        return Answer::Sent(flow, c.number, missed);
+    }
+    Answer::Idle(missed)
 }

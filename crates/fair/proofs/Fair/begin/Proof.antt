@@ -1,46 +1,48 @@
--- `Fair::begin` meets its contract. The loop's invariant: `best` is the place of the least waiting packet before place i, or
--- 256. The measure is the places left.
-use mathlib.Core.Path.{_≡_, sym, _∙_}
+-- `Fair::begin` meets its contract. The loop's invariant: `taken` is the least waiting packet before place i, and `best` its
+-- place; where none waits, `taken` is free and `best` is 256. The measure is the places left.
+use mathlib.Core.Path.{_≡_, refl, sym, _∙_}
 use mathlib.Core.Logic.{⊎-elim}
 use Prim.Native.Nat.{_-_, _≤_, _<_}
+use native.Mathlib.Omega.{arith}
 use borrow.Author.Needs.{needs}
 use lib.ListN.{length, length-map}
-use Rattle.places.proofs.Least.{Best, best-starts, best-free, best-first, best-new, best-kept, best-none, best-found}
-use Rattle.fair.specs.Lane.{keyOf}
+use Rattle.places.proofs.Scan.{Found, Scanned, scanned-starts, scanned-new, scanned-kept, scanned-ends}
+use Rattle.fair.specs.Lane.{keyOf, chosen}
 use Rattle.tags.specs.Tags.{isHeld, freePacket}
 use Rattle.fair.proofs.Calls.{begin-8, begin-9, begin-ok}
 use Rattle.fair.proofs.Fair.begin.Statement.{statement}
 use Rattle.fair.proofs.Fair.begin.Tie as tie
 
 abbrev Inv-loop : tie.InvT-loop
-Inv-loop self best₀ i₀ best i = (i ≤ 256) × Best isHeld keyOf freePacket 256 (self .packets) best i
+Inv-loop self packets best₀ taken₀ i₀ best taken i = (i ≤ 256) × Scanned isHeld keyOf freePacket 256 packets best taken i
 
 abbrev μ-loop : tie.MeasureT-loop
-μ-loop self best₀ i₀ best i = 256 - i
+μ-loop self packets best₀ taken₀ i₀ best taken i = 256 - i
 
-packets-known : (s : tie.Start Inv-loop μ-loop) → length (s .args .t1 .packets) ≡ 256
-packets-known s = sym (length-map (s .args .t1 .packets) _) ∙ s .good .0 .1 .1 .1 .1 .1 .1 .0 .1 .0 .1
+packets-known : (s : tie.Start Inv-loop μ-loop) → length (s .args .self .packets) ≡ 256
+packets-known s = sym (length-map (s .args .self .packets) _) ∙ s .good .0 .1 .1 .1 .1 .1 .1 .0 .1 .0 .1
+
+-- after the loop `taken` is the packet that goes first
+found : (a : tie.After-loop Inv-loop μ-loop) → Found isHeld 256 (chosen (a .before .before .before .before .before .args .self)) (a .before .loop .best) (a .before .loop .taken) 256
+found a =
+    let start = a .before .before .before .before .before in
+    let s = a .before .loop in
+    scanned-ends isHeld keyOf freePacket 256 (start .args .self .packets) (s .best) (s .taken) (s .i) (s .inv .1) (packets-known start) (a .loop-test .left) (s .inv .0)
 
 returns : tie.Need-returns Inv-loop μ-loop
-returns c = begin-8 (c .before .before .args .t1) (c .if1 .taken)
+returns c = begin-8 (c .before .before .args .self) (c .if1 .taken)
 
 loop-holds : tie.Need-loop-holds Inv-loop μ-loop
-loop-holds c = (search needs, best-starts isHeld keyOf freePacket 256 (c .before .before .args .t1 .packets))
+loop-holds c = (search needs, scanned-starts isHeld keyOf freePacket 256 (c .before .before .before .args .self .packets) refl)
 
 mul-p : tie.Need-mul-p Inv-loop μ-loop
 mul-p c = search needs
 
-element-copy-out-p : tie.Need-element-copy-out-p Inv-loop μ-loop
-element-copy-out-p c = search needs
+array-copy-out-p : tie.Need-array-copy-out-p Inv-loop μ-loop
+array-copy-out-p c = search needs
 
-mul-b : tie.Need-mul-b Inv-loop μ-loop
-mul-b c = search needs
-
-element-copy-out-b : tie.Need-element-copy-out-b Inv-loop μ-loop
-element-copy-out-b c = search needs
-
-goes-before-requires : tie.Need-goes-before-requires Inv-loop μ-loop
-goes-before-requires c κs = search needs
+goes-first-requires : tie.Need-goes-first-requires Inv-loop μ-loop
+goes-first-requires c κs = search needs
 
 add-i : tie.Need-add-i Inv-loop μ-loop
 add-i c = search needs
@@ -50,48 +52,37 @@ loop-less c = search needs
 
 loop-again : tie.Need-loop-again Inv-loop μ-loop
 loop-again c =
-    let at-loop = c .before .before .before in
-    let start = at-loop .before .before .before in
-    let packets = start .args .t1 .packets in
-    let best = at-loop .loop .best in
-    let i = at-loop .loop .i in
-    let inv = at-loop .loop .inv .1 in
+    let at-loop = c .before .before .before .before in
+    let start = at-loop .before .before .before .before in
+    let packets = start .args .self .packets in
+    let s = at-loop .loop in
     let l = packets-known start in
-    let p : i < 256 = search needs in (
+    let p : s .i < 256 = search needs in
+    let h : s .i < length packets = omega arith in (
       search needs,
-      ⊎-elim (λ w. rw (w .5) (best-new isHeld keyOf freePacket 256 packets best i l p inv (w .0 .taken) (w .1 .taken) (sym (w .3 .ensures) ∙ w .4 .taken)))
-          (⊎-elim (λ w. rw (w .5) (best-kept isHeld keyOf freePacket 256 packets best i l p inv (w .0 .taken) (w .1 .taken) (sym (w .3 .ensures) ∙ w .4 .left)))
-          (⊎-elim (λ w. rw (w .2) (best-first isHeld keyOf freePacket 256 packets best i l p inv (w .0 .taken) (w .1 .left)))
-          (λ w. rw (w .1) (best-free isHeld keyOf freePacket 256 packets best i l p inv (w .0 .left)))))
+      ⊎-elim (λ w. rw (w .1, w .2) (scanned-new isHeld keyOf freePacket 256 packets (s .best) (s .taken) (s .i) h (s .inv .1) (rw (c .before .goes-first .ensures) at (w .0 .taken))))
+          (λ w. rw (w .1, w .2) (scanned-kept isHeld keyOf freePacket 256 packets (s .best) (s .taken) (s .i) h (s .inv .1) (rw (c .before .goes-first .ensures) at (w .0 .left))))
           (c .if2 .came),
     )
 
 returns-2 : tie.Need-returns-2 Inv-loop μ-loop
 returns-2 c =
-    let at-loop = c .before .before in
-    let start = at-loop .before .before .before in
-    begin-9 (start .args .t1) (at-loop .before .if1 .left)
-    (best-none isHeld keyOf freePacket 256 (start .args .t1 .packets) (at-loop .loop .best) (at-loop .loop .i) (at-loop .loop .inv .1) (packets-known start) (c .before .loop-test .left) (at-loop .loop .inv .0) (c .if5 .taken))
+    let idle = c .before .before .before .before in
+    begin-9 (idle .before .before .args .self) (idle .if1 .left) (⊎-elim (λ q. q .2) (λ q. absurd (omega (arith, q .1, c .if3 .taken))) (found (c .before)))
 
-mul-taken : tie.Need-mul-taken Inv-loop μ-loop
-mul-taken c = search needs
+mul-packets : tie.Need-mul-packets Inv-loop μ-loop
+mul-packets c = search needs
 
-element-copy-out-taken : tie.Need-element-copy-out-taken Inv-loop μ-loop
-element-copy-out-taken c = search needs
-
-mul-t31 : tie.Need-mul-t31 Inv-loop μ-loop
-mul-t31 c = search needs
-
-element-set-from-self : tie.Need-element-set-from-self Inv-loop μ-loop
-element-set-from-self c = search needs
+array-set-from-packets : tie.Need-array-set-from-packets Inv-loop μ-loop
+array-set-from-packets c = search needs
 
 returns-3 : tie.Need-returns-3 Inv-loop μ-loop
 returns-3 c =
-    let found = c .before .before .before in
-    let at-loop = found .before .before in
-    let start = at-loop .before .before .before in
-    begin-ok (start .args .t1) (at-loop .before .if1 .left) (at-loop .loop .best)
-    (best-found isHeld keyOf freePacket 256 (start .args .t1 .packets) (at-loop .loop .best) (at-loop .loop .i) (at-loop .loop .inv .1) (packets-known start) (found .before .loop-test .left) (found .if5 .left))
+    let some = c .before .before .before .before in
+    let at-loop = some .before .before in
+    let idle = at-loop .before .before in
+    begin-ok (idle .before .before .args .self) (idle .if1 .left) (at-loop .loop .best) (at-loop .loop .taken)
+    (⊎-elim (λ q. absurd (omega (arith, q .1, some .if3 .left))) (λ q. q .2) (found (some .before)))
 
 pub begin-spec : {M : Type 1} → statement M
 begin-spec =
@@ -102,16 +93,12 @@ begin-spec =
     returns
     loop-holds
     mul-p
-    element-copy-out-p
-    mul-b
-    element-copy-out-b
-    goes-before-requires
+    array-copy-out-p
+    goes-first-requires
     add-i
     loop-less
     loop-again
     returns-2
-    mul-taken
-    element-copy-out-taken
-    mul-t31
-    element-set-from-self
+    mul-packets
+    array-set-from-packets
     returns-3)

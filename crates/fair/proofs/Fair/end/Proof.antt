@@ -15,23 +15,23 @@ use Rattle.fair.proofs.Fair.end.Statement.{statement}
 use Rattle.fair.proofs.Fair.end.Tie as tie
 
 abbrev Inv-loop : tie.InvT-loop
-Inv-loop self service n₀ i₀ n i = (i ≤ 256) × (n ≤ i) × (n ≡ count isHeld (take i (self .packets)))
+Inv-loop self service packets n₀ i₀ n i = (i ≤ 256) × (n ≤ i) × (n ≡ count isHeld (take i packets))
 
 abbrev μ-loop : tie.MeasureT-loop
-μ-loop self service n₀ i₀ n i = 256 - i
+μ-loop self service packets n₀ i₀ n i = 256 - i
 
-packets-known : (s : tie.Start Inv-loop μ-loop) → length (s .args .t1 .packets) ≡ 256
-packets-known s = sym (length-map (s .args .t1 .packets) _) ∙ s .good .0 .1 .1 .1 .1 .1 .1 .0 .1 .0 .1
+packets-known : (s : tie.Start Inv-loop μ-loop) → length (s .args .self .packets) ≡ 256
+packets-known s = sym (length-map (s .args .self .packets) _) ∙ s .good .0 .1 .1 .1 .1 .1 .1 .0 .1 .0 .1
 
 -- after the loop all that wait are counted
-counted : (a : tie.After-loop Inv-loop μ-loop) → a .before .loop .waiting ≡ waiting (a .before .before .before .before .before .args .t1)
+counted : (a : tie.After-loop Inv-loop μ-loop) → a .before .loop .waiting ≡ waiting (a .before .before .before .before .before .before .args .self)
 counted a =
-    let start = a .before .before .before .before .before in
+    let start = a .before .before .before .before .before .before in
     let l = packets-known start in
-    tally-ends isHeld (start .args .t1 .packets) (a .before .loop .i) (a .before .loop .waiting) (a .before .loop .inv .2) (omega (arith, a .loop-test .left))
+    tally-ends isHeld (start .args .self .packets) (a .before .loop .i) (a .before .loop .waiting) (a .before .loop .inv .2) (omega (arith, a .loop-test .left))
 
 returns : tie.Need-returns Inv-loop μ-loop
-returns c = end-10 (c .before .before .before .args .t1) (c .if1 .taken)
+returns c = end-10 (c .before .before .before .args .self) (c .if1 .taken)
 
 loop-holds : tie.Need-loop-holds Inv-loop μ-loop
 unfolding count
@@ -40,8 +40,8 @@ loop-holds c = search needs
 mul-p : tie.Need-mul-p Inv-loop μ-loop
 mul-p c = search needs
 
-element-copy-out-p : tie.Need-element-copy-out-p Inv-loop μ-loop
-element-copy-out-p c = search needs
+array-copy-out-p : tie.Need-array-copy-out-p Inv-loop μ-loop
+array-copy-out-p c = search needs
 
 add-waiting : tie.Need-add-waiting Inv-loop μ-loop
 add-waiting c = search needs
@@ -55,8 +55,8 @@ loop-less c = search needs
 loop-again : tie.Need-loop-again Inv-loop μ-loop
 loop-again c =
     let at-loop = c .before .before .before in
-    let start = at-loop .before .before .before .before in
-    let packets = start .args .t1 .packets in
+    let start = at-loop .before .before .before .before .before in
+    let packets = start .args .self .packets in
     let n = at-loop .loop .waiting in
     let i = at-loop .loop .i in
     let inv = at-loop .loop .inv in
@@ -72,17 +72,13 @@ later-requires c κs = search needs
 
 returns-2 : tie.Need-returns-2 Inv-loop μ-loop
 returns-2 c =
-    let after = c .before .before .before .before in
-    let idle = after .before .before in
-    let start = idle .before .before .before in
-    end-drained (start .args .t1) (idle .if1 .left) (c .before .later .result) (c .before .later .ensures) (sym (counted after) ∙ c .if3 .taken)
-
-returns-3 : tie.Need-returns-3 Inv-loop μ-loop
-returns-3 c =
-    let after = c .before .before .before .before in
-    let idle = after .before .before in
-    let start = idle .before .before .before in
-    end-waits (start .args .t1) (idle .if1 .left) (c .before .later .result) (c .before .later .ensures) (omega (arith, counted after, c .if3 .left))
+    let largest = c .before .before .before in
+    let after = largest .before .before .before in
+    let idle = after .before .before .before in
+    let u = idle .before .before .before .args .self in
+    ⊎-elim (λ w. rw (w .1) (end-drained u (idle .if1 .left) (largest .later .result) (largest .later .ensures) (sym (counted after) ∙ w .0 .taken)))
+    (λ w. rw (w .1) (end-waits u (idle .if1 .left) (largest .later .result) (largest .later .ensures) (omega (arith, counted after, w .0 .left))))
+    (c .before .if3 .came)
 
 pub end-spec : {M : Type 1} → statement M
 end-spec =
@@ -93,11 +89,10 @@ end-spec =
     returns
     loop-holds
     mul-p
-    element-copy-out-p
+    array-copy-out-p
     add-waiting
     add-i
     loop-less
     loop-again
     later-requires
-    returns-2
-    returns-3)
+    returns-2)

@@ -6,31 +6,36 @@ use Rattle.fair.proofs.Fair.open.Statement.{statement}
 use Rattle.fair.proofs.Fair.open.Tie as tie
 
 returns : tie.Need-returns
-returns c = open-1 (c .before .args .t1) (c .before .args .flow) (c .before .args .weight) (search needs)
+returns c = open-1 (c .before .args .self) (c .before .args .flow) (c .before .args .weight) (search needs)
 
 mul-was : tie.Need-mul-was
 mul-was c = search needs
 
-element-copy-out-was : tie.Need-element-copy-out-was
-element-copy-out-was c = search needs
+array-copy-out-was : tie.Need-array-copy-out-was
+array-copy-out-was c = search needs
 
 returns-2 : tie.Need-returns-2
-returns-2 c = let s = c .before .before .before .args in open-3 (s .t1) (s .flow) (s .weight) (search needs) (c .if2 .taken)
+returns-2 c = let s = c .before .before .before .before .args in open-3 (s .self) (s .flow) (s .weight) (search needs) (c .if2 .taken)
 
 bad-weight-requires : tie.Need-bad-weight-requires
 bad-weight-requires c κs = search needs
 
 returns-3 : tie.Need-returns-3
-returns-3 c = let s = c .before .before .before .before .before .args in open-4 (s .t1) (s .flow) (s .weight) (search needs) (c .before .before .if2 .left) (sym (c .before .bad-weight .ensures) ∙ c .if3 .taken)
+returns-3 c =
+    let s = c .before .before .before .before .before .before .args in
+    open-4 (s .self) (s .flow) (s .weight) (search needs) (c .before .before .if2 .left) (sym (c .before .bad-weight .ensures) ∙ c .if3 .taken)
 
-mul-t12 : tie.Need-mul-t12
-mul-t12 c = search needs
+mul-flows : tie.Need-mul-flows
+mul-flows c = search needs
 
-element-set-from-self : tie.Need-element-set-from-self
-element-set-from-self c = search needs
+array-set-from-flows : tie.Need-array-set-from-flows
+array-set-from-flows c = search needs
 
 returns-4 : tie.Need-returns-4
-returns-4 c = let s = c .before .before .before .before .before .before .args in open-ok (s .t1) (s .flow) (s .weight) (search needs) (c .before .before .before .if2 .left) (sym (c .before .before .bad-weight .ensures) ∙ c .before .if3 .left)
+returns-4 c =
+    let good = c .before .before .before .before .before in
+    let s = good .before .before .before .before .before .before .args in
+    open-ok (s .self) (s .flow) (s .weight) (search needs) (good .before .before .if2 .left) (sym (good .before .bad-weight .ensures) ∙ good .if3 .left)
 
 pub open-spec : {M : Type 1} → statement M
 open-spec =
@@ -38,10 +43,10 @@ open-spec =
     (tie.spec
     returns
     mul-was
-    element-copy-out-was
+    array-copy-out-was
     returns-2
     bad-weight-requires
     returns-3
-    mul-t12
-    element-set-from-self
+    mul-flows
+    array-set-from-flows
     returns-4)

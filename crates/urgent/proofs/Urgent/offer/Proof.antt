@@ -15,37 +15,37 @@ use Rattle.urgent.proofs.Urgent.offer.Statement.{statement}
 use Rattle.urgent.proofs.Urgent.offer.Tie as tie
 
 abbrev Inv-loop : tie.InvT-loop
-Inv-loop flow self f was k₀ i₀ k i = (i ≤ 16) × (k ≡ i + firstFree isHeld (drop i (placesOf 16 f (self .cells))))
+Inv-loop self flow f flows was cells k₀ i₀ k i = (i ≤ 16) × (k ≡ i + firstFree isHeld (drop i (placesOf 16 f cells)))
 
 abbrev μ-loop : tie.MeasureT-loop
-μ-loop flow self f was k₀ i₀ k i = i
+μ-loop self flow f flows was cells k₀ i₀ k i = i
 
-cells-known : (s : tie.Start Inv-loop μ-loop) → length (s .args .t1 .cells) ≡ 256
-cells-known s = sym (length-map (s .args .t1 .cells) _) ∙ s .good .0 .1 .1 .1 .1 .0 .1 .0 .1
+cells-known : (s : tie.Start Inv-loop μ-loop) → length (s .args .self .cells) ≡ 256
+cells-known s = sym (length-map (s .args .self .cells) _) ∙ s .good .0 .1 .1 .1 .1 .0 .1 .0 .1
 
 -- after the scan k is the flow's first free place
-scanned : (a : tie.After-loop Inv-loop μ-loop) → a .before .loop .k ≡ firstFree isHeld (placesOf 16 (a .before .before .before .before .before .before .args .flow) (a .before .before .before .before .before .before .args .t1 .cells))
+scanned : (a : tie.After-loop Inv-loop μ-loop) → a .before .loop .k ≡ firstFree isHeld (placesOf 16 (a .before .before .before .before .before .before .before .before .args .flow) (a .before .before .before .before .before .before .before .before .args .self .cells))
 scanned a =
-    let start = a .before .before .before .before .before .before in
-    scan-ends isHeld freeCell (start .args .t1 .cells) (start .args .flow * 16) 16 (omega (arith, cells-known start)) (a .before .loop .i) (a .before .loop .k) (a .loop-test .left) (a .before .loop .inv .1)
+    let start = a .before .before .before .before .before .before .before .before in
+    scan-ends isHeld freeCell (start .args .self .cells) (start .args .flow * 16) 16 (omega (arith, cells-known start)) (a .before .loop .i) (a .before .loop .k) (a .loop-test .left) (a .before .loop .inv .1)
 
 returns : tie.Need-returns Inv-loop μ-loop
-returns c = offer-1 (c .before .args .t1) (c .before .args .flow) (search needs)
+returns c = offer-1 (c .before .args .self) (c .before .args .flow) (search needs)
 
 mul-was : tie.Need-mul-was Inv-loop μ-loop
 mul-was c = search needs
 
-element-copy-out-was : tie.Need-element-copy-out-was Inv-loop μ-loop
-element-copy-out-was c = search needs
+array-copy-out-was : tie.Need-array-copy-out-was Inv-loop μ-loop
+array-copy-out-was c = search needs
 
 returns-2 : tie.Need-returns-2 Inv-loop μ-loop
-returns-2 c = offer-2 (c .before .before .before .before .args .t1) (c .before .before .before .before .args .flow) (search needs) (c .if2 .taken)
+returns-2 c = let s = c .before .before .before .before .before .args in offer-2 (s .self) (s .flow) (search needs) (c .if2 .taken)
 
 loop-holds : tie.Need-loop-holds Inv-loop μ-loop
 loop-holds c =
-    let start = c .before .before .before .before in
+    let start = c .before .before .before .before .before .before in
     let f = start .args .flow in
-    (search needs, scan-starts isHeld freeCell (start .args .t1 .cells) (f * 16) 16 (omega (arith, cells-known start)))
+    (search needs, scan-starts isHeld freeCell (start .args .self .cells) (f * 16) 16 (omega (arith, cells-known start)))
 
 sub-i : tie.Need-sub-i Inv-loop μ-loop
 sub-i c = search needs
@@ -59,8 +59,8 @@ add-c c = search needs
 mul-c-2 : tie.Need-mul-c-2 Inv-loop μ-loop
 mul-c-2 c = search needs
 
-element-copy-out-c : tie.Need-element-copy-out-c Inv-loop μ-loop
-element-copy-out-c c = search needs
+array-copy-out-c : tie.Need-array-copy-out-c Inv-loop μ-loop
+array-copy-out-c c = search needs
 
 loop-less : tie.Need-loop-less Inv-loop μ-loop
 loop-less c = search needs
@@ -68,8 +68,8 @@ loop-less c = search needs
 loop-again : tie.Need-loop-again Inv-loop μ-loop
 loop-again c =
     let at = c .before .before .before .before in
-    let start = at .before .before .before .before .before in
-    let u = start .args .t1 in
+    let start = at .before .before .before .before .before .before .before in
+    let u = start .args .self in
     let f = start .args .flow in
     let fits : f * 16 + 16 ≤ length (u .cells) = omega (arith, cells-known start) in
     (search needs, scan-free isHeld freeCell (u .cells) (f * 16) 16 fits (at .loop .i) (search needs) (search needs) (c .if3 .taken))
@@ -80,8 +80,8 @@ loop-less-2 c = search needs
 loop-again-2 : tie.Need-loop-again-2 Inv-loop μ-loop
 loop-again-2 c =
     let at = c .before .before .before .before in
-    let start = at .before .before .before .before .before in
-    let u = start .args .t1 in
+    let start = at .before .before .before .before .before .before .before in
+    let u = start .args .self in
     let f = start .args .flow in
     let fits : f * 16 + 16 ≤ length (u .cells) = omega (arith, cells-known start) in
     (search needs, scan-held isHeld freeCell (u .cells) (f * 16) 16 fits (at .loop .i) (at .loop .k) (search needs) (search needs) (at .loop .inv .1) (c .if3 .left))
@@ -89,54 +89,53 @@ loop-again-2 c =
 returns-3 : tie.Need-returns-3 Inv-loop μ-loop
 returns-3 c =
     let after = c .before in
-    let start = after .before .before .before .before .before .before in
-    offer-5 (start .args .t1) (start .args .flow) (search needs) (after .before .before .if2 .left) (cells-known start) (after .before .loop .k) (scanned after) (c .if4 .taken)
+    let start = after .before .before .before .before .before .before .before .before in
+    offer-5 (start .args .self) (start .args .flow) (search needs) (after .before .before .before .if2 .left) (cells-known start) (after .before .loop .k) (scanned after) (c .if4 .taken)
 
 passes-requires : tie.Need-passes-requires Inv-loop μ-loop
 passes-requires c κs = search needs
 
 returns-4 : tie.Need-returns-4 Inv-loop μ-loop
 returns-4 c =
-    let after = c .before .before .before in
-    let start = after .before .before .before .before .before .before in
-    offer-7 (start .args .t1) (start .args .flow) (search needs) (after .before .before .if2 .left) (cells-known start) (after .before .loop .k) (scanned after) (search needs) (c .before .passes .result) (c .before .passes .ensures) (c .if5 .taken)
+    let after = c .before .before .before .before in
+    let start = after .before .before .before .before .before .before .before .before in
+    offer-7 (start .args .self) (start .args .flow) (search needs) (after .before .before .before .if2 .left) (cells-known start) (after .before .loop .k) (scanned after) (search needs) (c .before .passes .result) (c .before .passes .ensures) (c .if5 .taken)
 
 add-before : tie.Need-add-before Inv-loop μ-loop
 add-before c =
-    let u = c .before .before .before .before .before .before .before .before .before .before .args .t1 in
-    let f = c .before .before .before .before .before .before .before .before .before .before .args .flow in
-    omega (arith, ltb-false slotLimit (u .now .0 + flowAt u f .deadline) (sym (c .before .before .passes .ensures) ∙ c .before .if5 .left))
+    let s = c .before .before .before .before .before .before .before .before .before .before .before .before .before .args in
+    omega (arith, ltb-false slotLimit (s .self .now .0 + flowAt (s .self) (s .flow) .deadline) (sym (c .before .before .passes .ensures) ∙ c .before .if5 .left))
 
 before-requires : tie.Need-before-requires Inv-loop μ-loop
 before-requires c κs = search needs
 
-mul-t16 : tie.Need-mul-t16 Inv-loop μ-loop
-mul-t16 c = search needs
+mul-cells : tie.Need-mul-cells Inv-loop μ-loop
+mul-cells c = search needs
 
-add-t40 : tie.Need-add-t40 Inv-loop μ-loop
-add-t40 c = search needs
+add-cells : tie.Need-add-cells Inv-loop μ-loop
+add-cells c = search needs
 
-mul-t41 : tie.Need-mul-t41 Inv-loop μ-loop
-mul-t41 c = search needs
+mul-cells-2 : tie.Need-mul-cells-2 Inv-loop μ-loop
+mul-cells-2 c = search needs
 
-element-set-from-self : tie.Need-element-set-from-self Inv-loop μ-loop
-element-set-from-self c = search needs
+array-set-from-cells : tie.Need-array-set-from-cells Inv-loop μ-loop
+array-set-from-cells c = search needs
 
 wrapping-add-u64-requires : tie.Need-wrapping-add-u64-requires Inv-loop μ-loop
 wrapping-add-u64-requires c κs = search needs
 
-mul-t41-2 : tie.Need-mul-t41-2 Inv-loop μ-loop
-mul-t41-2 c = search needs
+mul-flows : tie.Need-mul-flows Inv-loop μ-loop
+mul-flows c = search needs
 
-element-set-from-self-2 : tie.Need-element-set-from-self-2 Inv-loop μ-loop
-element-set-from-self-2 c = search needs
+array-set-from-flows : tie.Need-array-set-from-flows Inv-loop μ-loop
+array-set-from-flows c = search needs
 
 returns-5 : tie.Need-returns-5 Inv-loop μ-loop
 returns-5 c =
     let passed = c .before .before .before .before in
-    let after = passed .before .before in
-    let start = after .before .before .before .before .before .before in
-    offer-ok (start .args .t1) (start .args .flow) (search needs) (after .before .before .if2 .left) (cells-known start) (after .before .loop .k) (scanned after) (search needs)
+    let after = passed .before .before .before in
+    let start = after .before .before .before .before .before .before .before .before in
+    offer-ok (start .args .self) (start .args .flow) (search needs) (after .before .before .before .if2 .left) (cells-known start) (after .before .loop .k) (scanned after) (search needs)
     (passed .passes .result) (passed .passes .ensures) (c .before .before .before .if5 .left) (c .before .before2 .result) (c .wrapping-add-u64 .result) (c .before .before2 .ensures) (c .wrapping-add-u64 .ensures)
 
 pub offer-spec : {M : Type 1} → statement M
@@ -147,14 +146,14 @@ offer-spec =
     μ-loop
     returns
     mul-was
-    element-copy-out-was
+    array-copy-out-was
     returns-2
     loop-holds
     sub-i
     mul-c
     add-c
     mul-c-2
-    element-copy-out-c
+    array-copy-out-c
     loop-less
     loop-again
     loop-less-2
@@ -164,11 +163,11 @@ offer-spec =
     returns-4
     add-before
     before-requires
-    mul-t16
-    add-t40
-    mul-t41
-    element-set-from-self
+    mul-cells
+    add-cells
+    mul-cells-2
+    array-set-from-cells
     wrapping-add-u64-requires
-    mul-t41-2
-    element-set-from-self-2
+    mul-flows
+    array-set-from-flows
     returns-5)

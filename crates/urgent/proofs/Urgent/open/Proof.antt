@@ -6,31 +6,34 @@ use Rattle.urgent.proofs.Urgent.open.Statement.{statement}
 use Rattle.urgent.proofs.Urgent.open.Tie as tie
 
 returns : tie.Need-returns
-returns c = open-1 (c .before .args .t1) (c .before .args .flow) (c .before .args .deadline) (search needs)
+returns c = open-1 (c .before .args .self) (c .before .args .flow) (c .before .args .deadline) (search needs)
 
 mul-was : tie.Need-mul-was
 mul-was c = search needs
 
-element-copy-out-was : tie.Need-element-copy-out-was
-element-copy-out-was c = search needs
+array-copy-out-was : tie.Need-array-copy-out-was
+array-copy-out-was c = search needs
 
 returns-2 : tie.Need-returns-2
-returns-2 c = open-3 (c .before .before .before .args .t1) (c .before .before .before .args .flow) (c .before .before .before .args .deadline) (search needs) (c .if2 .taken)
+returns-2 c = let s = c .before .before .before .before .args in open-3 (s .self) (s .flow) (s .deadline) (search needs) (c .if2 .taken)
 
 bad-deadline-requires : tie.Need-bad-deadline-requires
 bad-deadline-requires c κs = search needs
 
 returns-3 : tie.Need-returns-3
-returns-3 c = let s = c .before .before .before .before .before .args in open-4 (s .t1) (s .flow) (s .deadline) (search needs) (c .before .before .if2 .left) (sym (c .before .bad-deadline .ensures) ∙ c .if3 .taken)
+returns-3 c = let s = c .before .before .before .before .before .before .args in open-4 (s .self) (s .flow) (s .deadline) (search needs) (c .before .before .if2 .left) (sym (c .before .bad-deadline .ensures) ∙ c .if3 .taken)
 
-mul-t11 : tie.Need-mul-t11
-mul-t11 c = search needs
+mul-flows : tie.Need-mul-flows
+mul-flows c = search needs
 
-element-set-from-self : tie.Need-element-set-from-self
-element-set-from-self c = search needs
+array-set-from-flows : tie.Need-array-set-from-flows
+array-set-from-flows c = search needs
 
 returns-4 : tie.Need-returns-4
-returns-4 c = let s = c .before .before .before .before .before .args in open-ok (s .t1) (s .flow) (s .deadline) (search needs) (c .before .before .if2 .left) (sym (c .before .bad-deadline .ensures) ∙ c .if3 .left)
+returns-4 c =
+    let tested = c .before .before in
+    let s = tested .before .before .before .before .before .before .args in
+    open-ok (s .self) (s .flow) (s .deadline) (search needs) (tested .before .before .if2 .left) (sym (tested .before .bad-deadline .ensures) ∙ tested .if3 .left)
 
 pub open-spec : {M : Type 1} → statement M
 open-spec =
@@ -38,10 +41,10 @@ open-spec =
     (tie.spec
     returns
     mul-was
-    element-copy-out-was
+    array-copy-out-was
     returns-2
     bad-deadline-requires
     returns-3
-    mul-t11
-    element-set-from-self
+    mul-flows
+    array-set-from-flows
     returns-4)
