@@ -12,6 +12,7 @@ use fair::Fair;
 use urgent::Urgent;
 
 // Both lanes. They share nothing.
+#[repr(C)]
 pub struct Station {
     pub urgent: Urgent,
     pub fair: Fair,
@@ -56,108 +57,66 @@ impl Station {
     }
 
     // Opens a flow of the urgent lane with a deadline.
-    pub fn open_urgent(mut self, flow: u64, deadline: u64) -> Called
+    pub fn open_urgent(self, flow: u64, deadline: u64) -> Called
         ensures { λ r. ⌜ r ≡ byUrgent self (urgentOpenOf (self .urgent) flow deadline) ⌝ }
     {
         let lane = self.urgent;
         let done = lane.open(flow, deadline);
-        let after = done.lane;
-        let answer = done.answer;
-        self.urgent = after;
-        Called {
-            station: self,
-            reply: Reply::Urgent(answer),
-        }
+        by_urgent(self, done)
     }
 
     // Opens a flow of the fair lane with a weight.
-    pub fn open_fair(mut self, flow: u64, weight: u64) -> Called
+    pub fn open_fair(self, flow: u64, weight: u64) -> Called
         ensures { λ r. ⌜ r ≡ byFair self (fairOpenOf (self .fair) flow weight) ⌝ }
     {
         let lane = self.fair;
         let done = lane.open(flow, weight);
-        let after = done.lane;
-        let answer = done.answer;
-        self.fair = after;
-        Called {
-            station: self,
-            reply: Reply::Fair(answer),
-        }
+        by_fair(self, done)
     }
 
     // Offers a cell of a flow to the urgent lane.
-    pub fn offer_cell(mut self, flow: u64) -> Called
+    pub fn offer_cell(self, flow: u64) -> Called
         ensures { λ r. ⌜ r ≡ byUrgent self (urgentOfferOf (self .urgent) flow) ⌝ }
     {
         let lane = self.urgent;
         let done = lane.offer(flow);
-        let after = done.lane;
-        let answer = done.answer;
-        self.urgent = after;
-        Called {
-            station: self,
-            reply: Reply::Urgent(answer),
-        }
+        by_urgent(self, done)
     }
 
     // Offers a packet of a flow to the fair lane.
-    pub fn offer_packet(mut self, flow: u64, length: u64) -> Called
+    pub fn offer_packet(self, flow: u64, length: u64) -> Called
         ensures { λ r. ⌜ r ≡ byFair self (fairOfferOf (self .fair) flow length) ⌝ }
     {
         let lane = self.fair;
         let done = lane.offer(flow, length);
-        let after = done.lane;
-        let answer = done.answer;
-        self.fair = after;
-        Called {
-            station: self,
-            reply: Reply::Fair(answer),
-        }
+        by_fair(self, done)
     }
 
     // A turn of the radio, open or lost.
-    pub fn turn(mut self, usable: bool) -> Called
+    pub fn turn(self, usable: bool) -> Called
         ensures { λ r. ⌜ r ≡ byUrgent self (turnOf (self .urgent) usable) ⌝ }
     {
         let lane = self.urgent;
         let done = lane.turn(usable);
-        let after = done.lane;
-        let answer = done.answer;
-        self.urgent = after;
-        Called {
-            station: self,
-            reply: Reply::Urgent(answer),
-        }
+        by_urgent(self, done)
     }
 
     // Takes a waiting packet into service.
-    pub fn begin(mut self) -> Called
+    pub fn begin(self) -> Called
         ensures { λ r. ⌜ r ≡ byFair self (beginOf (self .fair)) ⌝ }
     {
         let lane = self.fair;
         let done = lane.begin();
-        let after = done.lane;
-        let answer = done.answer;
-        self.fair = after;
-        Called {
-            station: self,
-            reply: Reply::Fair(answer),
-        }
+        by_fair(self, done)
     }
 
     // Ends the packet in service.
-    pub fn end(mut self) -> Called
+    pub fn end(self) -> Called
         ensures { λ r. ⌜ r ≡ byFair self (endOf (self .fair)) ⌝ }
     {
         let lane = self.fair;
         let done = lane.end();
-        let after = done.lane;
-        let answer = done.answer;
-        self.fair = after;
-        Called {
-            station: self,
-            reply: Reply::Fair(answer),
-        }
+        by_fair(self, done)
     }
 
     // Answers any call.
@@ -174,5 +133,31 @@ impl Station {
             Call::Begin => self.begin(),
             Call::End => self.end(),
         }
+    }
+}
+
+// The station after a call on the urgent lane: that lane as the call left it, and the other as it was.
+fn by_urgent(station: Station, done: urgent::Done) -> Called
+    ensures { λ r. ⌜ r ≡ byUrgent station done ⌝ }
+{
+    let lane = done.lane;
+    let answer = done.answer;
+    let fair = station.fair;
+    Called {
+        station: Station { urgent: lane, fair },
+        reply: Reply::Urgent(answer),
+    }
+}
+
+// The station after a call on the fair lane: that lane as the call left it, and the other as it was.
+fn by_fair(station: Station, done: fair::Done) -> Called
+    ensures { λ r. ⌜ r ≡ byFair station done ⌝ }
+{
+    let lane = done.lane;
+    let answer = done.answer;
+    let urgent = station.urgent;
+    Called {
+        station: Station { urgent, fair: lane },
+        reply: Reply::Fair(answer),
     }
 }
