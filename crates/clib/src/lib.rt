@@ -1,0 +1,111 @@
+// The station for programs in C: each call by value, and its answer as five plain numbers.
+mod plain;
+
+ghost use mathlib.Core.Path.{_≡_};
+ghost use Rattle.urgent.specs.Calls.{turnOf};
+ghost use Rattle.urgent.specs.Calls.{openOf as urgentOpenOf};
+ghost use Rattle.urgent.specs.Calls.{offerOf as urgentOfferOf};
+ghost use Rattle.fair.specs.Calls.{beginOf, endOf};
+ghost use Rattle.fair.specs.Calls.{openOf as fairOpenOf};
+ghost use Rattle.fair.specs.Calls.{offerOf as fairOfferOf};
+ghost use Rattle.station.specs.Calls.{freshStation, byUrgent, byFair};
+ghost use Rattle.units.specs.Radio.{slotsPassed};
+ghost use Rattle.clib.specs.Plain.{calledOf};
+use plain::plainly;
+use station::Station;
+
+// What a call is answered: its kind, and what the rules name for that kind, in their order; the rest is 0.
+#[repr(C)]
+pub struct Answer {
+    pub kind: u64,
+    pub a: u64,
+    pub b: u64,
+    pub c: u64,
+    pub d: u64,
+}
+
+// The station after a call, and the answer.
+#[repr(C)]
+pub struct Called {
+    pub station: Station,
+    pub answer: Answer,
+}
+
+// The station before any call.
+#[no_mangle]
+pub extern "C" fn tuhkeliar_fresh() -> Station
+    ensures { λ r. ⌜ r ≡ freshStation ⌝ }
+{
+    Station::fresh()
+}
+
+// Opens a flow of the urgent lane with a deadline.
+#[no_mangle]
+pub extern "C" fn tuhkeliar_open_urgent(station: Station, flow: u64, deadline: u64) -> Called
+    ensures { λ r. ⌜ r ≡ calledOf (byUrgent station (urgentOpenOf (station .urgent) flow deadline)) ⌝ }
+{
+    let called = station.open_urgent(flow, deadline);
+    plainly(called)
+}
+
+// Opens a flow of the fair lane with a weight.
+#[no_mangle]
+pub extern "C" fn tuhkeliar_open_fair(station: Station, flow: u64, weight: u64) -> Called
+    ensures { λ r. ⌜ r ≡ calledOf (byFair station (fairOpenOf (station .fair) flow weight)) ⌝ }
+{
+    let called = station.open_fair(flow, weight);
+    plainly(called)
+}
+
+// Offers a cell of a flow to the urgent lane.
+#[no_mangle]
+pub extern "C" fn tuhkeliar_offer_cell(station: Station, flow: u64) -> Called
+    ensures { λ r. ⌜ r ≡ calledOf (byUrgent station (urgentOfferOf (station .urgent) flow)) ⌝ }
+{
+    let called = station.offer_cell(flow);
+    plainly(called)
+}
+
+// Offers a packet of a flow to the fair lane.
+#[no_mangle]
+pub extern "C" fn tuhkeliar_offer_packet(station: Station, flow: u64, length: u64) -> Called
+    ensures { λ r. ⌜ r ≡ calledOf (byFair station (fairOfferOf (station .fair) flow length)) ⌝ }
+{
+    let called = station.offer_packet(flow, length);
+    plainly(called)
+}
+
+// A turn of the radio, open or lost.
+#[no_mangle]
+pub extern "C" fn tuhkeliar_turn(station: Station, usable: bool) -> Called
+    ensures { λ r. ⌜ r ≡ calledOf (byUrgent station (turnOf (station .urgent) usable)) ⌝ }
+{
+    let called = station.turn(usable);
+    plainly(called)
+}
+
+// Takes a waiting packet into service.
+#[no_mangle]
+pub extern "C" fn tuhkeliar_begin(station: Station) -> Called
+    ensures { λ r. ⌜ r ≡ calledOf (byFair station (beginOf (station .fair))) ⌝ }
+{
+    let called = station.begin();
+    plainly(called)
+}
+
+// Ends the packet in service.
+#[no_mangle]
+pub extern "C" fn tuhkeliar_end(station: Station) -> Called
+    ensures { λ r. ⌜ r ≡ calledOf (byFair station (endOf (station .fair))) ⌝ }
+{
+    let called = station.end();
+    plainly(called)
+}
+
+// How many slots passed between two of the radio's counts; a gap of 65,536 or more can't be told.
+#[no_mangle]
+pub extern "C" fn tuhkeliar_slots_passed(earlier: u16, later: u16) -> u16
+    ensures { λ r. ⌜ r ≡ slotsPassed earlier later ⌝ }
+{
+    units::slots_passed(earlier, later)
+}
