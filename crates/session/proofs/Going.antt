@@ -8,6 +8,8 @@ use native.Mathlib.Omega.{arith}
 use borrow.Author.Tests.{eq-eqb, ne-eqb, lt-ltb, le-ltb}
 use lib.ListN.{length, take, drop, getD, set, length-append, length-take, length-drop, drop-of-length-le, take-append-drop}
 use lib.Seq.{take-suc, drop-cons, take-at, drop-at, drop-drop}
+use Rattle.urgent.specs.declared.Done.{Done as UrgentDone}
+use Rattle.fair.specs.declared.Done.{Done as FairDone}
 use Rattle.station.specs.Calls.{callOf}
 use Rattle.station.specs.declared.Call.{Call}
 use Rattle.station.specs.declared.Called.{Called}
@@ -16,6 +18,7 @@ use Rattle.lines.specs.declared.Parsed.the-variants.{Command, NoCommand}
 use Rattle.lines.specs.Reading.{parsedOf}
 use Rattle.replies.specs.Printing.{Put, Printed, lineFeed, noCommandLine, lineOf}
 use Rattle.session.specs.declared.Session.{Session}
+use Rattle.session.specs.declared.Fed.{Fed}
 use Rattle.session.specs.Steps.{Step, keptAs, stepOf, after, fedOf, finishOf, longest, takenOf, Feeds}
 
 -- what was parsed, read back
@@ -28,15 +31,15 @@ not-asked none r p q = refl
 not-asked (some d) r p q = let z : _≡_ {A = ℕ} 0 1 = cc in absurd (omega arith)
 
 -- each way that a byte can go
-pub step-call : (s : Session) (b : ℕ) (r : Parsed) (c : Call) (d : Called) → b ≡ lineFeed → r ≡ parsedOf (keptAs (s .kept) (s .count)) → r ≡ Command c → d ≡ callOf (s .station) c
+pub step-call : (s : Session) (b : ℕ) {r : Parsed} {c k : Call} {d : Called} → b ≡ lineFeed → r ≡ parsedOf (keptAs (s .kept) (s .count)) → r ≡ Command c → c ≡ k → d ≡ callOf (s .station) k
     → stepOf s b ≡ record { session = record { station = d .station; kept = s .kept; count = 0 }; text = lineOf (d .reply) }
 unfolding stepOf
-step-call s b r c d l p q e = rw (eq-eqb b lineFeed l, asked (keptAs (s .kept) (s .count)) r c p q, e)
+step-call s b {r} {c} {k} {d} l p q h e = rw (eq-eqb b lineFeed l, asked (keptAs (s .kept) (s .count)) r c p q, h, e)
 
-pub step-none : (s : Session) (b : ℕ) (r : Parsed) → b ≡ lineFeed → r ≡ parsedOf (keptAs (s .kept) (s .count)) → r ≡ NoCommand
+pub step-none : (s : Session) (b : ℕ) {r : Parsed} → b ≡ lineFeed → r ≡ parsedOf (keptAs (s .kept) (s .count)) → r ≡ NoCommand
     → stepOf s b ≡ record { session = record { station = s .station; kept = s .kept; count = 0 }; text = noCommandLine }
 unfolding stepOf
-step-none s b r l p q = rw (eq-eqb b lineFeed l, not-asked (keptAs (s .kept) (s .count)) r p q)
+step-none s b {r} l p q = rw (eq-eqb b lineFeed l, not-asked (keptAs (s .kept) (s .count)) r p q)
 
 pub step-kept : (s : Session) (b : ℕ) → (b ≡ lineFeed → ⊥) → s .count < 32
     → stepOf s b ≡ record { session = record { station = s .station; kept = set (s .kept) (s .count) b; count = s .count + 1 }; text = [] }
@@ -47,17 +50,6 @@ pub step-long : (s : Session) (b : ℕ) → (b ≡ lineFeed → ⊥) → 32 ≤ 
     → stepOf s b ≡ record { session = record { station = s .station; kept = s .kept; count = 33 }; text = [] }
 unfolding stepOf
 step-long s b n l = rw (ne-eqb b lineFeed n, le-ltb (s .count) 32 l)
-
--- the end of the input
-pub finish-empty : (s : Session) (out : List ℕ) → s .count ≡ 0 → Printed (finishOf s) out out 0
-finish-empty s out e = rw (eq-eqb (s .count) 0 e) (record { bytes = refl; counted = refl; long = refl; fits = omega arith })
-
-pub finish-call : (s : Session) (r : Parsed) (c : Call) (d : Called) → (s .count ≡ 0 → ⊥) → r ≡ parsedOf (keptAs (s .kept) (s .count)) → r ≡ Command c → d ≡ callOf (s .station) c
-    → finishOf s ≡ lineOf (d .reply)
-finish-call s r c d n p q e = rw (ne-eqb (s .count) 0 n, asked (keptAs (s .kept) (s .count)) r c p q, e)
-
-pub finish-none : (s : Session) (r : Parsed) → (s .count ≡ 0 → ⊥) → r ≡ parsedOf (keptAs (s .kept) (s .count)) → r ≡ NoCommand → finishOf s ≡ noCommandLine
-finish-none s r n p q = rw (ne-eqb (s .count) 0 n, not-asked (keptAs (s .kept) (s .count)) r p q)
 
 -- bytes fed one part after the other
 pub fed-append : (s : Session) (a b : List ℕ) → fedOf s (a ++ b) ≡ after (fedOf s a) (fedOf (fedOf s a .session) b)
@@ -126,6 +118,16 @@ going-on {s} {input} {was} {is} {now} {i} {w} g l h t e {is'} {w'} p =
       fits = omega (arith, put-fits p (omega (arith, g .long, g .fits)), g .long);
     }
 
+-- the session of both lanes, each as its last call left it, and of the line kept
+abbrev pub together : UrgentDone → FairDone → List ℕ → ℕ → Session
+together urgent fair kept count = record { station = record { urgent = urgent .lane; fair = fair .lane }; kept = kept; count = count }
+
+-- the parts after a branch of the code, each by what the branch made of it
+pub arrived : {s : Session} {input was is is' : List ℕ} {u u' : UrgentDone} {f f' : FairDone} {kept kept' : List ℕ} {count count' i w w' : ℕ}
+    → is' ≡ is → u' ≡ u → f' ≡ f → kept' ≡ kept → count' ≡ count → w' ≡ w → Going s input was is (together u f kept count) i w
+    → Going s input was is' (together u' f' kept' count') i w'
+arrived a b c d e h g = rw (a, b, c, d, e, h) g
+
 -- nothing more is taken: the input is at its end, or there is no room for a line
 pub going-ends : {s : Session} {input was is : List ℕ} {now : Session} {i w : ℕ} → Going s input was is now i w → i ≤ length input → takenOf now (drop i input) (length was - w) ≡ 0
     → Feeds s input was is (record { session = now; read = i; written = w })
@@ -152,3 +154,16 @@ pub put-nothing : (is : List ℕ) (place : ℕ) → Put [] is place is place
 put-nothing is place =
     let z : place + 0 ≡ place = omega arith in
     record { bytes = rw z (sym (take-append-drop place is)); counted = sym z; long = refl }
+
+-- the end of the input
+pub finish-empty : (s : Session) (out : List ℕ) → s .count ≡ 0 → Printed (finishOf s) out out 0
+finish-empty s out e = rw (eq-eqb (s .count) 0 e) (record { bytes = refl; counted = refl; long = refl; fits = omega arith })
+
+pub finish-fed : {s : Session} {was is : List ℕ} {fed : Fed} → Feeds s (lineFeed ∷ []) was is fed → (s .count ≡ 0 → ⊥) → longest ≤ length was → length is ≡ length was
+    → Printed (finishOf s) was is (fed .written)
+unfolding stepOf takenOf
+finish-fed {s} {was} {is} {fed} f n r l =
+    let one : fed .read ≡ 1 = f .read ∙ rw (le-ltb (length was) longest r) in
+    let t : fedOf s (take (fed .read) (lineFeed ∷ [])) .text ≡ finishOf s = rw (one, fed-one s lineFeed, ne-eqb (s .count) 0 n) in
+    let m : fed .written ≡ length (finishOf s) = f .written ∙ ap length t in
+    record { bytes = f .bytes ∙ rw (t, m); counted = m; long = l; fits = f .fits }

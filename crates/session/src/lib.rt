@@ -8,6 +8,8 @@ use answering::no_command;
 use answering::read;
 use answering::reply;
 use lines::Parsed;
+use station::Call;
+use station::Reply;
 use station::Station;
 
 // The station, and the bytes of the line that is not at its end yet: count of them, or 33 for more than 32.
@@ -38,11 +40,22 @@ impl Session {
         }
     }
 
-    // Takes as much of the input as out has room for, and writes the answers of its lines at the start of out.
+    // Takes as much of the input as out has room for, and writes the answers of its lines at the start of out. The lanes are
+    // taken apart so that a line moves only the lane it calls.
     pub fn feed(self, input: &[u8], out: &mut [u8]) -> Fed
         ensures { λ r. ⌜ Feeds self (now (input .entry)) (now (out .entry)) (now (out .exit)) r ⌝ }
     {
-        let mut station = self.station;
+        let station = self.station;
+        let urgent_lane = station.urgent;
+        let fair_lane = station.fair;
+        let mut urgent = urgent::Done {
+            lane: urgent_lane,
+            answer: urgent::Answer::Opened,
+        };
+        let mut fair = fair::Done {
+            lane: fair_lane,
+            answer: fair::Answer::Opened,
+        };
         let mut kept = self.kept;
         let mut count = self.count;
         let mut i: usize = 0;
@@ -55,11 +68,56 @@ impl Session {
             if b == b'\n' {
                 match read(kept, count) {
                     Parsed::Command(call) => {
-                        let called = station.call(call);
-                        let next = called.station;
-                        let told = called.reply;
-                        station = next;
-                        w = reply(told, out, w);
+                        match call {
+                            Call::OpenUrgent(flow, deadline) => {
+                                let lane = urgent.lane;
+                                urgent = lane.open(flow, deadline);
+                                let answer = urgent.answer;
+                                w = reply(Reply::Urgent(answer), out, w);
+                            }
+                            Call::OpenFair(flow, weight) => {
+                                let lane = fair.lane;
+                                fair = lane.open(flow, weight);
+                                let answer = fair.answer;
+                                w = reply(Reply::Fair(answer), out, w);
+                            }
+                            Call::OfferCell(flow) => {
+                                let lane = urgent.lane;
+                                urgent = lane.offer(flow);
+                                let answer = urgent.answer;
+                                w = reply(Reply::Urgent(answer), out, w);
+                            }
+                            Call::OfferPacket(flow, length) => {
+                                let lane = fair.lane;
+                                fair = lane.offer(flow, length);
+                                let answer = fair.answer;
+                                w = reply(Reply::Fair(answer), out, w);
+                            }
+                            Call::OpenTurn => {
+                                let lane = urgent.lane;
+                                urgent = lane.turn(true);
+                                let answer = urgent.answer;
+                                w = reply(Reply::Urgent(answer), out, w);
+                            }
+                            Call::LostTurn => {
+                                let lane = urgent.lane;
+                                urgent = lane.turn(false);
+                                let answer = urgent.answer;
+                                w = reply(Reply::Urgent(answer), out, w);
+                            }
+                            Call::Begin => {
+                                let lane = fair.lane;
+                                fair = lane.begin();
+                                let answer = fair.answer;
+                                w = reply(Reply::Fair(answer), out, w);
+                            }
+                            Call::End => {
+                                let lane = fair.lane;
+                                fair = lane.end();
+                                let answer = fair.answer;
+                                w = reply(Reply::Fair(answer), out, w);
+                            }
+                        }
                     }
                     Parsed::NoCommand => {
                         w = no_command(out, w);
@@ -76,9 +134,15 @@ impl Session {
             }
             i += 1;
         }
+        let urgent_lane = urgent.lane;
+        let fair_lane = fair.lane;
+        let after = Station {
+            urgent: urgent_lane,
+            fair: fair_lane,
+        };
         Fed {
             session: Session {
-                station: station,
+                station: after,
                 kept: kept,
                 count: count,
             },
@@ -95,15 +159,7 @@ impl Session {
         if count == 0 {
             return 0;
         }
-        let kept = self.kept;
-        match read(kept, count) {
-            Parsed::Command(call) => {
-                let station = self.station;
-                let called = station.call(call);
-                let told = called.reply;
-                replies::print(told, out)
-            }
-            Parsed::NoCommand => replies::print_refusal(units::Refusal::NoCommand, out),
-        }
+        let fed = self.feed(b"\n", out);
+        fed.written
     }
 }
