@@ -2,10 +2,9 @@
 use mathlib.Core.Path.{_≡_}
 use mathlib.Core.List.{List, [], _∷_, map}
 use Prim.Native.Nat.{ℕ, _*_}
-use Rattle.units.specs.Answers.{Told, refusal, values}
+use Rattle.units.specs.Answers.{Told, values}
 use Rattle.units.specs.Charges.{chargeOf}
 use Rattle.units.specs.Radio.{slotsPassed}
-use Rattle.units.specs.declared.Refusal.the-variants.{SlotsUsedUp}
 use Rattle.admission.specs.Verdicts.{admitOf}
 use Rattle.admission.specs.Answers.{told as verdictTold}
 use Rattle.admission.specs.declared.Declaration.{Declaration}
@@ -105,7 +104,7 @@ abbrev pub H : Case
 H =
     record {
       answered = replies (freshAt 3999999999) (OpenUrgent 0 1 ∷ OpenUrgent 1 2 ∷ OfferCell 0 ∷ OfferCell 1 ∷ []);
-      expected = ok ∷ ok ∷ values (0 ∷ 3999999999 ∷ []) ∷ refusal SlotsUsedUp ∷ [];
+      expected = ok ∷ ok ∷ values (0 ∷ 3999999999 ∷ []) ∷ record { number = 7; values = [] } ∷ [];
     }
 
 abbrev pub I : Case

@@ -4,7 +4,7 @@ use mathlib.Core.Logic.{_⊎_, inl, inr}
 use mathlib.Core.Bool.{Bool, true, false, _&&_, _||_, true≢false, false≢true}
 use Prim.Native.Nat.{_≤_, _<_}
 use native.Mathlib.Omega.{arith}
-use borrow.Author.Tests.{lt-ltb, le-ltb, eq-eqb, ne-eqb, ltb-true, ltb-false, eqb-true}
+use borrow.Author.Tests.{lt-ltb, le-ltb, eq-eqb, ne-eqb, ltb-true, eqb-true}
 use lib.Dec.{ltb, eqb}
 use Rattle.places.specs.Choice.{Key, comesBefore}
 
@@ -95,12 +95,3 @@ not-self a = told-not a a (before-self a)
 pub not-earlier : (a b c : Key) → comesBefore c b ≡ true → comesBefore a b ≡ false → comesBefore a c ≡ false
 not-earlier a b c p n =
     told-not a c (λ q. true≢false (sym (told-before a b (before-trans a c b q (before-told c b p))) ∙ n))
-
--- what does not come before b has no smaller rank
-pub rank-order : (a b : Key) → comesBefore a b ≡ false → b .rank ≤ a .rank
-unfolding comesBefore
-rank-order a b = go (ltb (a .rank) (b .rank)) refl _
-  where
-    go : (s : Bool) → ltb (a .rank) (b .rank) ≡ s → (r : Bool) → (s || r) ≡ false → b .rank ≤ a .rank
-    go true p r e = absurd (true≢false e)
-    go false p r e = ltb-false (a .rank) (b .rank) p

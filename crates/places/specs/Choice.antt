@@ -37,11 +37,6 @@ least held key best k (x ∷ xs) = least held key (better held key best k x) (su
 abbrev pub leastHeld : {A : Type 0} → (A → Bool) → (ℕ → A → Key) → List A → Choice A
 leastHeld held key xs = least held key nothing 0 xs
 
--- the place of a choice, or a number past all places
-abbrev pub placeOr : {A : Type 0} → ℕ → Choice A → ℕ
-placeOr past nothing = past
-placeOr past (at k x) = k
-
 -- A choice among places is right: nothing only where none is held, and otherwise a held place that no held place comes before.
 abbrev pub Leads : {A : Type 0} → (A → Bool) → (ℕ → A → Key) → A → List A → Choice A → Type 0
 Leads held key free xs nothing = (i : ℕ) → held (getD xs i free) ≡ true → ⊥

@@ -1,5 +1,5 @@
 -- The one proof of the promises.
-use Prim.Native.Nat.{ℕ}
+use mathlib.Core.Path.{refl}
 use native.Mathlib.Omega.{arith}
 use Rattle.units.proofs.Charges.{product-rule}
 use Rattle.admission.proofs.Published.{published}
@@ -30,6 +30,7 @@ promises =
       S2 = refused-first;
       S2-number = number-told;
       S2-lowest = grounds-rise;
+      S2-numbers = refl;
       S3-urgent = urgent-only;
       S3-fair = fair-only;
       S4 = refused-as-told;

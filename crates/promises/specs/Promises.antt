@@ -1,23 +1,23 @@
 -- The promises, each a field of one record, over every list of calls from a fresh station unless it says otherwise.
 use mathlib.Core.Path.{_≡_}
 use mathlib.Core.Bool.{Bool, not}
-use mathlib.Core.List.{List, [], _∷_, _++_}
+use mathlib.Core.List.{List, [], _∷_, _++_, map}
 use mathlib.Core.Option.{none}
 use Prim.Native.Nat.{ℕ, _+_, _%_, _≤_, _<_}
-use Rattle.units.specs.Refusals.{Ground, firstOf}
+use Rattle.units.specs.Refusals.{Ground, numberOf, firstOf}
+use Rattle.units.specs.declared.Refusal.{Refusal}
+use Rattle.units.specs.declared.Refusal.the-variants.{NoSuchFlow, NotOpen, AlreadyOpen, BeyondLimit, PlacesFull, TagsUsedUp, SlotsUsedUp, PacketInService, NothingWaits, NothingInService, NoCommand}
 use Rattle.units.specs.Charges.{ProductRule}
 use Rattle.units.specs.Radio.{slotsPassed}
-use Rattle.units.specs.declared.Refusal.{Refusal}
 use Rattle.admission.specs.Published.{Published}
 use Rattle.promises_urgent.specs.Promised.{OnTime, acceptedOf, Accounted, Earliest, lastIn, Numbered, FewNumbers, OwnPlan, NoneBetter, Explained}
 use Rattle.promises_urgent.specs.Refused.{openingTold as urgentOpening, offeringTold as cellOffering, turnTold}
 use Rattle.promises_fair.specs.Packets.{virtualTime}
 use Rattle.promises_fair.specs.Promised.{acceptedOf as packetsOf, startIn, finishTag, First, ServedInOrder, LastBegun, EndsAndNumbers}
 use Rattle.promises_fair.specs.Refused.{openingTold as fairOpening, offeringTold as packetOffering, beginTold, endTold}
-use Rattle.station.specs.declared.Station.{Station}
 use Rattle.station.specs.declared.Call.{Call}
 use Rattle.station.specs.declared.Call.the-variants.{OpenUrgent, OpenFair, OfferCell, OfferPacket, OpenTurn, LostTurn, Begin, End}
-use Rattle.station.specs.Calls.{freshStation, callOf}
+use Rattle.station.specs.Calls.{freshStation}
 use Rattle.station.specs.Answers.{told, refusalIn}
 use Rattle.station.specs.InKind.{AnsweredInKind}
 use Rattle.station.specs.Laws.{RefusedFirst, NumberTold, GroundsRise, RefusedSame, isUrgent}
@@ -29,6 +29,22 @@ use Rattle.promises.specs.Run.{Run, run, runFrom, replyTo, onUrgent, onF
 -- calls of the fair lane
 abbrev pub isFair : Call → Bool
 isFair call = not (isUrgent call)
+
+-- the refusals in the order of the rules' table
+abbrev pub inOrder : List Refusal
+inOrder =
+    NoSuchFlow
+    ∷ NotOpen
+    ∷ AlreadyOpen
+    ∷ BeyondLimit
+    ∷ PlacesFull
+    ∷ TagsUsedUp
+    ∷ SlotsUsedUp
+    ∷ PacketInService
+    ∷ NothingWaits
+    ∷ NothingInService
+    ∷ NoCommand
+    ∷ []
 
 -- what a call is refused for, read off the calls and replies so far: opened is an opening answered ok; waiting is accepted, not sent
 -- and not gone by, or accepted and not begun; in service is a begin answered and no end since; the slot is U0's and the tags are F1's
@@ -53,6 +69,8 @@ pub record Promises : Type 0 where
   pub S2 : RefusedFirst
   pub S2-number : NumberTold
   pub S2-lowest : GroundsRise
+  -- and the refusals have the rules' numbers
+  pub S2-numbers : map numberOf inOrder ≡ 1 ∷ 2 ∷ 3 ∷ 4 ∷ 5 ∷ 6 ∷ 7 ∷ 8 ∷ 9 ∷ 10 ∷ 11 ∷ []
   -- S3: the lanes share nothing: the replies to one lane's calls are the replies to those calls alone
   pub S3-urgent : (calls : List Call) → repliesTo isUrgent freshStation calls ≡ replies freshStation (only isUrgent calls)
   pub S3-fair : (calls : List Call) → repliesTo isFair freshStation calls ≡ replies freshStation (only isFair calls)

@@ -1,18 +1,15 @@
 -- Every call is answered in kind: case by case, from the lanes.
 use mathlib.Core.Path.{refl}
 use mathlib.Core.Logic.{inl, inr}
-use mathlib.Core.Bool.{Bool, true, false}
-use Rattle.places.specs.Choice.{Choice, nothing, at, leastHeld}
+use mathlib.Core.Bool.{true, false}
+use Rattle.places.specs.Choice.{Choice, nothing, at}
 use Rattle.urgent.specs.declared.Cell.{Cell}
 use Rattle.urgent.specs.declared.Urgent.{Urgent as UrgentLane}
-use Rattle.urgent.specs.Lane.{isHeld, keyOf}
 use Rattle.urgent.specs.Calls.{turned, chosen}
 use Rattle.urgent.proofs.Cases.{turn-cases}
 use Rattle.urgent.proofs.Cases.{open-cases as urgent-open, offer-cases as cell-cases}
 use Rattle.fair.proofs.Cases.{begin-cases, end-cases}
 use Rattle.fair.proofs.Cases.{open-cases as fair-open, offer-cases as packet-cases}
-use Rattle.station.specs.declared.Station.{Station}
-use Rattle.station.specs.declared.Call.{Call}
 use Rattle.station.specs.declared.Call.the-variants.{OpenUrgent, OpenFair, OfferCell, OfferPacket, OpenTurn, LostTurn, Begin, End}
 use Rattle.station.specs.declared.Reply.the-variants.{Urgent, Fair}
 use Rattle.station.specs.Calls.{callOf}

@@ -4,9 +4,6 @@ use Prim.Native.Nat.{ℕ}
 use lib.Dec.{ltb}
 
 -- flows are numbered 0 to 15, in each lane
-abbrev pub flowCount : ℕ
-flowCount = 16
-
 abbrev pub noSuchFlow : ℕ → Bool
 noSuchFlow flow = ltb 15 flow
 
