@@ -34,8 +34,36 @@ static void tell(tuhkeliar_answer t) {
     }
 }
 
+/* Whether the header's fields are where the library has them: each after calls that make it differ from its neighbours. */
+static bool laid_out(void) {
+    tuhkeliar_station s = tuhkeliar_fresh();
+    s = tuhkeliar_turn(s, true).station;
+    s = tuhkeliar_open_urgent(s, 1, 9).station;
+    s = tuhkeliar_offer_cell(s, 1).station;
+    s = tuhkeliar_offer_cell(s, 1).station;
+    s = tuhkeliar_open_fair(s, 2, 3).station;
+    s = tuhkeliar_offer_packet(s, 2, 10).station;
+    s = tuhkeliar_offer_packet(s, 2, 20).station;
+    s = tuhkeliar_offer_packet(s, 2, 30).station;
+    s = tuhkeliar_open_fair(s, 5, 1).station;
+    s = tuhkeliar_offer_packet(s, 5, 1).station;
+    s = tuhkeliar_offer_packet(s, 5, 2).station;
+    for (int k = 0; k < 2; k++) s = tuhkeliar_end(tuhkeliar_begin(s).station).station;
+    s = tuhkeliar_begin(s).station;
+    tuhkeliar_urgent_flow u = s.urgent.flows[1];
+    tuhkeliar_cell c = s.urgent.cells[17];
+    tuhkeliar_fair_flow f = s.fair.flows[2];
+    tuhkeliar_packet p = s.fair.packets[34];
+    tuhkeliar_service b = s.fair.service;
+    return s.urgent.now.slot == 1 && u.opened && u.deadline == 9 && u.next == 2 && c.held && c.number == 1 && c.last.slot == 9
+        && s.fair.time.tag == 720720 && s.fair.ended.tag == 2402400 && b.busy && b.flow == 5 && b.number == 1 && b.length == 2
+        && b.finish.tag == 2162160 && f.opened && f.weight == 3 && f.next == 3 && f.finish.tag == 14414400 && p.held && p.number == 2
+        && p.length == 30 && p.start.tag == 7207200 && p.finish.tag == 14414400;
+}
+
 int main(void) {
     char line[64];
+    if (!laid_out()) return 1;
     if (tuhkeliar_slots_passed(65530, 4) != 10 || tuhkeliar_slots_passed(5, 4) != 65535) return 1;
     called.station = tuhkeliar_fresh();
     while (fgets(line, sizeof line, stdin)) {
