@@ -67,7 +67,8 @@ typedef struct {
     tuhkeliar_packet packets[256];
 } tuhkeliar_fair;
 
-/* The station. A program gets one from tuhkeliar_fresh, hands it to each call and keeps the one that comes back. */
+/* The station. A program gets one from tuhkeliar_fresh, hands it to each call and keeps the one that comes back; of bytes that it made up
+   itself nothing is promised. */
 typedef struct {
     tuhkeliar_urgent urgent;
     tuhkeliar_fair fair;
@@ -110,7 +111,7 @@ tuhkeliar_called tuhkeliar_open_fair(tuhkeliar_station station, uint64_t flow, u
 tuhkeliar_called tuhkeliar_offer_cell(tuhkeliar_station station, uint64_t flow);
 tuhkeliar_called tuhkeliar_offer_packet(tuhkeliar_station station, uint64_t flow, uint64_t length);
 
-/* A turn of the radio: usable, or lost. */
+/* A turn of the radio, open or lost. */
 tuhkeliar_called tuhkeliar_turn(tuhkeliar_station station, bool usable);
 
 /* Takes a waiting packet into service, and ends it. */

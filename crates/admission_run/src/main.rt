@@ -170,13 +170,13 @@ fn read_part(bytes: &[u8], start: Reading) -> Reading
 fn main() {
     let mut buffer = io::buffer();
     let mut reading = Reading::fresh();
-    let mut turns = u64::MAX;
-    while turns > 0 {
+    let mut reads = u64::MAX;
+    while reads > 0 {
         let n = io::read_full(STDIN_FILENO, &mut buffer);
         if n == 0 {
             return;
         }
         reading = read_part(&buffer[..n], reading);
-        turns -= 1;
+        reads -= 1;
     }
 }

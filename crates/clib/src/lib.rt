@@ -3,11 +3,11 @@ mod plain;
 
 ghost use mathlib.Core.Path.{_≡_};
 ghost use Rattle.urgent.specs.Calls.{turnOf};
-ghost use Rattle.urgent.specs.Calls.{openOf as urgentOpenOf};
-ghost use Rattle.urgent.specs.Calls.{offerOf as urgentOfferOf};
+ghost use Rattle.urgent.specs.Calls.{openOf as openUrgentOf};
+ghost use Rattle.urgent.specs.Calls.{offerOf as offerCellOf};
 ghost use Rattle.fair.specs.Calls.{beginOf, endOf};
-ghost use Rattle.fair.specs.Calls.{openOf as fairOpenOf};
-ghost use Rattle.fair.specs.Calls.{offerOf as fairOfferOf};
+ghost use Rattle.fair.specs.Calls.{openOf as openFairOf};
+ghost use Rattle.fair.specs.Calls.{offerOf as offerPacketOf};
 ghost use Rattle.station.specs.Calls.{freshStation, byUrgent, byFair};
 ghost use Rattle.units.specs.Radio.{slotsPassed};
 ghost use Rattle.clib.specs.Plain.{calledOf};
@@ -42,7 +42,7 @@ pub extern "C" fn tuhkeliar_fresh() -> Station
 // Opens a flow of the urgent lane with a deadline.
 #[no_mangle]
 pub extern "C" fn tuhkeliar_open_urgent(station: Station, flow: u64, deadline: u64) -> Called
-    ensures { λ r. ⌜ r ≡ calledOf (byUrgent station (urgentOpenOf (station .urgent) flow deadline)) ⌝ }
+    ensures { λ r. ⌜ r ≡ calledOf (byUrgent station (openUrgentOf (station .urgent) flow deadline)) ⌝ }
 {
     let called = station.open_urgent(flow, deadline);
     plainly(called)
@@ -51,7 +51,7 @@ pub extern "C" fn tuhkeliar_open_urgent(station: Station, flow: u64, deadline: u
 // Opens a flow of the fair lane with a weight.
 #[no_mangle]
 pub extern "C" fn tuhkeliar_open_fair(station: Station, flow: u64, weight: u64) -> Called
-    ensures { λ r. ⌜ r ≡ calledOf (byFair station (fairOpenOf (station .fair) flow weight)) ⌝ }
+    ensures { λ r. ⌜ r ≡ calledOf (byFair station (openFairOf (station .fair) flow weight)) ⌝ }
 {
     let called = station.open_fair(flow, weight);
     plainly(called)
@@ -60,7 +60,7 @@ pub extern "C" fn tuhkeliar_open_fair(station: Station, flow: u64, weight: u64) 
 // Offers a cell of a flow to the urgent lane.
 #[no_mangle]
 pub extern "C" fn tuhkeliar_offer_cell(station: Station, flow: u64) -> Called
-    ensures { λ r. ⌜ r ≡ calledOf (byUrgent station (urgentOfferOf (station .urgent) flow)) ⌝ }
+    ensures { λ r. ⌜ r ≡ calledOf (byUrgent station (offerCellOf (station .urgent) flow)) ⌝ }
 {
     let called = station.offer_cell(flow);
     plainly(called)
@@ -69,7 +69,7 @@ pub extern "C" fn tuhkeliar_offer_cell(station: Station, flow: u64) -> Called
 // Offers a packet of a flow to the fair lane.
 #[no_mangle]
 pub extern "C" fn tuhkeliar_offer_packet(station: Station, flow: u64, length: u64) -> Called
-    ensures { λ r. ⌜ r ≡ calledOf (byFair station (fairOfferOf (station .fair) flow length)) ⌝ }
+    ensures { λ r. ⌜ r ≡ calledOf (byFair station (offerPacketOf (station .fair) flow length)) ⌝ }
 {
     let called = station.offer_packet(flow, length);
     plainly(called)

@@ -48,7 +48,7 @@ fn plain_fair(answer: fair::Answer) -> Answer
         fair::Answer::Opened => numbers(1, 0, 0, 0, 0),
         fair::Answer::Accepted(number, start, finish) => numbers(5, number, start.0, finish.0, 0),
         fair::Answer::Begun(flow, number, bytes, start) => numbers(6, flow, number, bytes, start.0),
-        fair::Answer::Ended(flow, number, length) => numbers(7, flow, number, length, 0),
+        fair::Answer::Ended(flow, number, bytes) => numbers(7, flow, number, bytes, 0),
     }
 }
 

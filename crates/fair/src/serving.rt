@@ -1,7 +1,6 @@
 // Taking a packet into service, and ending it.
 ghost use mathlib.Core.Path.{_≡_};
-ghost use mathlib.Core.Bool.{not, _&&_, _||_};
-ghost use Rattle.places.specs.Choice.{comesBefore};
+ghost use Rattle.places.specs.Choice.{comesBefore, goesFirst};
 ghost use Rattle.tags.specs.Tags.{isHeld};
 ghost use Rattle.fair.specs.Lane.{keyOf};
 ghost use Rattle.fair.specs.Calls.{beginOf, endOf};
@@ -25,15 +24,16 @@ impl Fair {
                 answer: Answer::Refused(Refusal::PacketInService),
             };
         }
-        let mut packets = self.packets;
-        let mut best: usize = 256;
-        let mut taken = Packet {
+        let free = Packet {
             held: false,
             number: 0,
             length: 0,
             start: Tag(0),
             finish: Tag(0),
         };
+        let mut packets = self.packets;
+        let mut best: usize = 256;
+        let mut taken = free;
         let mut i: usize = 0;
         while i < 256 {
             let p = packets[i];
@@ -50,13 +50,7 @@ impl Fair {
             };
         }
         let flow = (best / 16) as u64;
-        packets[best] = Packet {
-            held: false,
-            number: 0,
-            length: 0,
-            start: Tag(0),
-            finish: Tag(0),
-        };
+        packets[best] = free;
         let start = taken.start;
         let finish = taken.finish;
         let served = Service {
@@ -131,7 +125,7 @@ impl Fair {
 
 // Whether the packet at place k goes before all that the scan met so far: the waiting packet b at place j, or none if b is free.
 fn goes_first(p: Packet, k: usize, b: Packet, j: usize) -> bool
-    ensures { λ r. ⌜ r ≡ (isHeld p && (not (isHeld b) || comesBefore (keyOf k p) (keyOf j b))) ⌝ }
+    ensures { λ r. ⌜ r ≡ goesFirst isHeld keyOf k p j b ⌝ }
 {
     if !p.held {
         return false;

@@ -6,7 +6,7 @@ use Prim.Native.Nat.{ℕ, zero, suc, _+_, _≤_, _<_}
 use native.Mathlib.Nat.{not-suc-le-zero}
 use native.Mathlib.Numerals.{add-one}
 use native.Mathlib.Omega.{arith}
-use lib.ListN.{length, getD, set, take, replicate}
+use lib.ListN.{length, getD, set, take}
 use lib.Seq.{take-suc, take-all}
 use Rattle.places.specs.Places.{bit, count}
 
@@ -109,8 +109,3 @@ module _ {A : Type 0} (test : A → Bool) where
   count-set [] i y d h = absurd (not-suc-le-zero h)
   count-set (x ∷ xs) zero y d h = omega arith
   count-set (x ∷ xs) (suc i) y d h = omega (arith, count-set xs i y d (omega arith))
-
-  pub count-replicate : (n : ℕ) (x : A) → test x ≡ false → count test (replicate n x) ≡ 0
-  unfolding count
-  count-replicate zero x f = refl
-  count-replicate (suc n) x f = rw f (omega (arith, count-replicate n x f))

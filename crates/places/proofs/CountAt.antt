@@ -10,7 +10,6 @@ use lib.Dec.{eqb}
 use lib.ListN.{length, getD, set, take, drop, replicate, take-append-drop, length-drop}
 use lib.Seq.{length-take-le}
 use Rattle.places.specs.Places.{bit, count, countAt, placesOf, flowOf}
-use Rattle.places.proofs.Count.{bit-le-one}
 
 module _ {A : Type 0} where
   pub at-same : (p q : ℕ → A → Bool) → ((k : ℕ) (x : A) → bit (p k x) ≡ bit (q k x)) → (k : ℕ) (xs : List A) → countAt p k xs ≡ countAt q k xs
@@ -22,11 +21,6 @@ module _ {A : Type 0} where
   unfolding countAt
   at-le p q h k [] = omega arith
   at-le p q h k (x ∷ xs) = omega (arith, h k x, at-le p q h (suc k) xs)
-
-  pub at-most : (p : ℕ → A → Bool) (k : ℕ) (xs : List A) → countAt p k xs ≤ length xs
-  unfolding countAt
-  at-most p k [] = omega arith
-  at-most p k (x ∷ xs) = omega (arith, bit-le-one (p k x), at-most p (suc k) xs)
 
   pub at-replicate : (p : ℕ → A → Bool) (x : A) → ((k : ℕ) → p k x ≡ false) → (k n : ℕ) → countAt p k (replicate n x) ≡ 0
   unfolding countAt
@@ -58,20 +52,6 @@ module _ {A : Type 0} where
       rw t (omega arith)
   at-here p d k (x ∷ xs) (suc i) l e =
       omega (arith, at-here p d (suc k) xs i (omega arith) (subst (λ (n : ℕ). p n (getD xs i d) ≡ true) (omega arith) e))
-
-  -- a place that passes, where one is counted
-  pub at-some : (p : ℕ → A → Bool) (d : A) (k : ℕ) (xs : List A) → 0 < countAt p k xs → (i : ℕ) × (i < length xs) × (p (k + i) (getD xs i d) ≡ true)
-  unfolding countAt
-  at-some p d k [] h = absurd (not-suc-le-zero h)
-  at-some p d k (x ∷ xs) h = go (p k x) refl h (at-some p d (suc k) xs)
-    where
-      go : (t : Bool) → p k x ≡ t → 0 < bit t + countAt p (suc k) xs
-          → (0 < countAt p (suc k) xs → (i : ℕ) × (i < length xs) × (p (suc k + i) (getD xs i d) ≡ true))
-          → (i : ℕ) × (i < suc (length xs)) × (p (k + i) (getD (x ∷ xs) i d) ≡ true)
-      go true e l r = (0, omega arith, subst (λ (n : ℕ). p n x ≡ true) (omega arith) e)
-      go false e l r =
-          let s = r (omega arith) in
-          (suc (s .0), omega (arith, s .1), subst (λ (n : ℕ). p n (getD xs (s .0) d) ≡ true) (omega arith) (s .2))
 
   -- the places after a change of each, by a test of the places before it
   pub at-map : (p q : ℕ → A → Bool) (f : A → A) → ((k : ℕ) (x : A) → bit (p k (f x)) ≡ bit (q k x)) → (k : ℕ) (xs : List A) → countAt p k (map f xs) ≡ countAt q k xs

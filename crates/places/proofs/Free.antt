@@ -13,15 +13,6 @@ use Rattle.places.specs.Places.{bit, count, firstFree}
 use Rattle.places.proofs.Count.{count-le-length}
 
 module _ {A : Type 0} (held : A → Bool) where
-  pub first-le : (xs : List A) → firstFree held xs ≤ length xs
-  unfolding firstFree
-  first-le [] = omega arith
-  first-le (x ∷ xs) = go (first-le xs) (held x)
-    where
-      go : firstFree held xs ≤ length xs → (t : Bool) → cond t (suc (firstFree held xs)) 0 ≤ suc (length xs)
-      go r true = omega arith
-      go r false = omega arith
-
   -- where some place is free, not all are held
   pub free-left : (xs : List A) → firstFree held xs < length xs → count held xs < length xs
   unfolding firstFree count

@@ -1,14 +1,14 @@
 -- A scan for the least held place that keeps what it found beside its place: each step of it.
 use mathlib.Core.Path.{_≡_, refl, sym, ap, _∙_}
 use mathlib.Core.Logic.{_⊎_, inl, inr}
-use mathlib.Core.Bool.{Bool, true, false, not, _&&_, _||_}
+use mathlib.Core.Bool.{Bool, true, false, _&&_}
 use mathlib.Core.List.{List, [], _∷_, _++_}
 use Prim.Native.Nat.{ℕ, suc, _+_, _≤_, _<_}
 use native.Mathlib.Numerals.{add-one}
 use native.Mathlib.Omega.{arith}
 use lib.ListN.{length, getD, take, length-take}
 use lib.Seq.{take-suc, take-all}
-use Rattle.places.specs.Choice.{Key, comesBefore, Choice, nothing, at, better, least, leastHeld}
+use Rattle.places.specs.Choice.{Key, comesBefore, goesFirst, Choice, nothing, at, better, least, leastHeld}
 use Rattle.places.proofs.Tests.{and-holds, and-told}
 
 -- y at place j, which lies before place i, is the choice; where y is free there is no choice, and j is n
@@ -19,10 +19,6 @@ module _ {A : Type 0} (held : A → Bool) (key : ℕ → A → Key) (d : A) (n :
   -- a scan of n places has come to place i with y from place j
   abbrev pub Scanned : List A → ℕ → A → ℕ → Type 0
   Scanned xs j y i = Found held n (leastHeld held key (take i xs)) j y i
-
-  -- x at place k is held and goes before y at place j, or y is free
-  abbrev goesFirst : ℕ → A → ℕ → A → Bool
-  goesFirst k x j y = held x && (not (held y) || comesBefore (key k x) (key j y))
 
   -- one place more at the end of a list
   least-snoc : (best : Choice A) (k : ℕ) (xs : List A) (x : A) (i : ℕ) → k + length xs ≡ i
@@ -39,7 +35,7 @@ module _ {A : Type 0} (held : A → Bool) (key : ℕ → A → Key) (d : A) (n :
     step : leastHeld held key (take (i + 1) xs) ≡ better held key (leastHeld held key (take i xs)) i (getD xs i d)
     step = rw (add-one, take-suc xs i d p) (least-snoc nothing 0 (take i xs) (getD xs i d) i (simp length-take (omega arith)))
 
-    pub scanned-new : Scanned xs j y i → goesFirst i (getD xs i d) j y ≡ true → Scanned xs i (getD xs i d) (i + 1)
+    pub scanned-new : Scanned xs j y i → goesFirst held key i (getD xs i d) j y ≡ true → Scanned xs i (getD xs i d) (i + 1)
     unfolding better
     scanned-new (inl q) g =
         let h = and-told _ _ g .0 in
@@ -48,7 +44,7 @@ module _ {A : Type 0} (held : A → Bool) (key : ℕ → A → Key) (d : A) (n :
         let h : (held (getD xs i d) && comesBefore (key i (getD xs i d)) (key j y)) ≡ true = rw (q .0) at g in
         inr (and-told _ _ g .0, omega arith, step ∙ rw (q .2, h))
 
-    pub scanned-kept : Scanned xs j y i → goesFirst i (getD xs i d) j y ≡ false → Scanned xs j y (i + 1)
+    pub scanned-kept : Scanned xs j y i → goesFirst held key i (getD xs i d) j y ≡ false → Scanned xs j y (i + 1)
     unfolding better
     scanned-kept (inl q) g =
         let h : held (getD xs i d) ≡ false = sym (and-holds _ _ (rw (q .0))) ∙ g in

@@ -1,6 +1,6 @@
 -- Which held place goes first: the least by rank, then by flow, then by number.
 use mathlib.Core.Path.{_≡_}
-use mathlib.Core.Bool.{Bool, true, false, cond, _&&_, _||_}
+use mathlib.Core.Bool.{Bool, true, false, not, cond, _&&_, _||_}
 use mathlib.Core.List.{List, [], _∷_}
 use Prim.Native.Nat.{ℕ, suc, _<_}
 use lib.Dec.{ltb, eqb}
@@ -27,6 +27,10 @@ pub data Choice (A : Type 0) : Type 0 where
 unfoldable pub better : {A : Type 0} → (A → Bool) → (ℕ → A → Key) → Choice A → ℕ → A → Choice A
 better held key nothing k x = cond (held x) (at k x) nothing
 better held key (at j y) k x = cond (held x && comesBefore (key k x) (key j y)) (at k x) (at j y)
+
+-- x at place k goes before y at place j, where y is the best so far, or free if there is none yet
+abbrev pub goesFirst : {A : Type 0} → (A → Bool) → (ℕ → A → Key) → ℕ → A → ℕ → A → Bool
+goesFirst held key k x j y = held x && (not (held y) || comesBefore (key k x) (key j y))
 
 -- the best of a choice and of the places of a list that starts at place k
 unfoldable pub least : {A : Type 0} → (A → Bool) → (ℕ → A → Key) → Choice A → ℕ → List A → Choice A

@@ -7,7 +7,7 @@ use Rattle.station.specs.Calls.{callOf}
 use Rattle.station.proofs.InKind.{answered-in-kind}
 use Rattle.station.proofs.Laws.{refused-first, number-told, grounds-rise, refused-same}
 use Rattle.lines.proofs.Texts.{reads-one-text}
-use Rattle.session.proofs.Pieces.{fed-in-pieces}
+use Rattle.session.proofs.Pieces.{fed-in-pieces, takes-on}
 use Rattle.promises_urgent.proofs.Account.{conserved, few-numbers, sends-earliest}
 use Rattle.promises_urgent.proofs.Account.{offer-told as cell-told}
 use Rattle.promises_urgent.proofs.Own.{own-plan}
@@ -60,4 +60,5 @@ promises =
       P1-others = others-answered;
       P2 = calls-answered;
       P3 = fed-in-pieces;
+      P3-takes = takes-on;
     }

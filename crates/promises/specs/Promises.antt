@@ -22,7 +22,7 @@ use Rattle.station.specs.Answers.{told, refusalIn}
 use Rattle.station.specs.InKind.{AnsweredInKind}
 use Rattle.station.specs.Laws.{RefusedFirst, NumberTold, GroundsRise, RefusedSame, isUrgent}
 use Rattle.lines.specs.Reading.{ReadsOneText}
-use Rattle.session.specs.Laws.{FedInPieces}
+use Rattle.session.specs.Laws.{FedInPieces, TakesOn}
 use Rattle.promises.specs.Sessions.{CallsAnswered, OthersAnswered}
 use Rattle.promises.specs.Run.{Run, run, runFrom, replyTo, onUrgent, onFair, replies, repliesTo, only}
 
@@ -125,3 +125,5 @@ pub record Promises : Type 0 where
   pub P2 : CallsAnswered
   -- P3: a whole session is one definition, bytes to bytes, and fed in any pieces the program's steps write it
   pub P3 : FedInPieces
+  -- and with room for a line, no piece is left waiting
+  pub P3-takes : TakesOn

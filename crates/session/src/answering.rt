@@ -1,4 +1,4 @@
-// What a line is answered: small things alone go in, so that the station need not be moved.
+// What a line is answered: the call that its bytes ask for, and the reply written into the output.
 ghost use mathlib.Core.Path.{_≡_};
 ghost use Prim.Native.Nat.{_+_, _≤_};
 ghost use lib.ListN.{length, take};

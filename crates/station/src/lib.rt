@@ -1,12 +1,11 @@
 // The station: an urgent lane and a fair lane in one state, which every call takes by value and hands back beside the reply.
 ghost use mathlib.Core.Path.{_≡_};
-ghost use mathlib.Core.Bool.{true, false};
 ghost use Rattle.urgent.specs.Calls.{turnOf};
-ghost use Rattle.urgent.specs.Calls.{openOf as urgentOpenOf};
-ghost use Rattle.urgent.specs.Calls.{offerOf as urgentOfferOf};
+ghost use Rattle.urgent.specs.Calls.{openOf as openUrgentOf};
+ghost use Rattle.urgent.specs.Calls.{offerOf as offerCellOf};
 ghost use Rattle.fair.specs.Calls.{beginOf, endOf};
-ghost use Rattle.fair.specs.Calls.{openOf as fairOpenOf};
-ghost use Rattle.fair.specs.Calls.{offerOf as fairOfferOf};
+ghost use Rattle.fair.specs.Calls.{openOf as openFairOf};
+ghost use Rattle.fair.specs.Calls.{offerOf as offerPacketOf};
 ghost use Rattle.station.specs.Calls.{freshStation, byUrgent, byFair, callOf};
 use fair::Fair;
 use urgent::Urgent;
@@ -58,7 +57,7 @@ impl Station {
 
     // Opens a flow of the urgent lane with a deadline.
     pub fn open_urgent(self, flow: u64, deadline: u64) -> Called
-        ensures { λ r. ⌜ r ≡ byUrgent self (urgentOpenOf (self .urgent) flow deadline) ⌝ }
+        ensures { λ r. ⌜ r ≡ byUrgent self (openUrgentOf (self .urgent) flow deadline) ⌝ }
     {
         let lane = self.urgent;
         let done = lane.open(flow, deadline);
@@ -67,7 +66,7 @@ impl Station {
 
     // Opens a flow of the fair lane with a weight.
     pub fn open_fair(self, flow: u64, weight: u64) -> Called
-        ensures { λ r. ⌜ r ≡ byFair self (fairOpenOf (self .fair) flow weight) ⌝ }
+        ensures { λ r. ⌜ r ≡ byFair self (openFairOf (self .fair) flow weight) ⌝ }
     {
         let lane = self.fair;
         let done = lane.open(flow, weight);
@@ -76,7 +75,7 @@ impl Station {
 
     // Offers a cell of a flow to the urgent lane.
     pub fn offer_cell(self, flow: u64) -> Called
-        ensures { λ r. ⌜ r ≡ byUrgent self (urgentOfferOf (self .urgent) flow) ⌝ }
+        ensures { λ r. ⌜ r ≡ byUrgent self (offerCellOf (self .urgent) flow) ⌝ }
     {
         let lane = self.urgent;
         let done = lane.offer(flow);
@@ -85,7 +84,7 @@ impl Station {
 
     // Offers a packet of a flow to the fair lane.
     pub fn offer_packet(self, flow: u64, length: u64) -> Called
-        ensures { λ r. ⌜ r ≡ byFair self (fairOfferOf (self .fair) flow length) ⌝ }
+        ensures { λ r. ⌜ r ≡ byFair self (offerPacketOf (self .fair) flow length) ⌝ }
     {
         let lane = self.fair;
         let done = lane.offer(flow, length);

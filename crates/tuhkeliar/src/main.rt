@@ -25,13 +25,13 @@ fn main() {
 }
 
 // Reads piece after piece until the input ends or a write fails. A proved loop has to end, and nothing says that the input does: the
-// loop counts its turns down, from a number that no run uses up.
+// loop counts its reads down, from a number that no run uses up.
 fn run(input: &mut [u8], out: &mut [u8]) -> Ran
     requires { ⌜ 96 ≤ length (now out) ⌝ }
 {
     let mut session = Session::fresh();
-    let mut turns = u64::MAX;
-    while 0 < turns {
+    let mut reads = u64::MAX;
+    while 0 < reads {
         let got = libc::read(STDIN_FILENO, input);
         let n = io::count(got, input);
         if n == 0 {
@@ -43,7 +43,7 @@ fn run(input: &mut [u8], out: &mut [u8]) -> Ran
         }
         let next = ran.session;
         session = next;
-        turns -= 1;
+        reads -= 1;
     }
     Ran {
         session: session,

@@ -20,6 +20,7 @@ use Rattle.urgent.specs.Lane.{freeCell, isHeld, flowAt, keyOf, lastIs, o
 abbrev pub refused : Urgent → Refusal → Done
 refused u r = record { lane = u; answer = Refused r }
 
+-- a call goes through unless some refusal applies
 abbrev pub unless : Urgent → Option Refusal → Done → Done
 unless u none done = done
 unless u (some r) done = refused u r
@@ -37,13 +38,15 @@ opened u flow deadline =
       answer = Opened;
     }
 
+-- what opening a flow with a deadline gives
 unfoldable pub openOf : Urgent → ℕ → ℕ → Done
 openOf u flow deadline = unless u (firstOf (openingGrounds u flow deadline)) (opened u flow deadline)
 
--- offering: the cell's window is now to now + deadline - 1, and it takes the flow's first free place
+-- the last slot of the window of a cell offered now, which is now to now + deadline - 1
 abbrev pub lastSlot : Urgent → ℕ → ℕ
 lastSlot u flow = u .now .0 + flowAt u flow .deadline - 1
 
+-- offering: the cell takes the flow's first free place and its next number
 abbrev pub accepted : Urgent → ℕ → Done
 accepted u flow =
     record {
@@ -60,6 +63,7 @@ accepted u flow =
       answer = Accepted (flowAt u flow .next) (record { 0 = lastSlot u flow });
     }
 
+-- what offering a cell of a flow gives
 unfoldable pub offerOf : Urgent → ℕ → Done
 offerOf u flow = unless u (firstOf (offeringGrounds u flow)) (accepted u flow)
 
@@ -80,9 +84,11 @@ ended u cells answer =
 abbrev pub chosen : Urgent → Bool → Choice Cell
 chosen u usable = cond usable (leastHeld isHeld keyOf (u .cells)) nothing
 
+-- a turn with its choice made
 abbrev pub turned : Urgent → Choice Cell → Done
 turned u nothing = ended u (u .cells) Idle
 turned u (at place c) = ended u (set (u .cells) place freeCell) (Sent (flowOf placeCount place) (c .number))
 
+-- what a turn gives, open or lost
 unfoldable pub turnOf : Urgent → Bool → Done
 turnOf u usable = unless u (firstOf (turnGrounds u)) (turned u (chosen u usable))

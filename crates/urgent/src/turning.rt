@@ -1,9 +1,9 @@
 // A turn of the radio.
 ghost use mathlib.Core.Path.{_≡_};
-ghost use mathlib.Core.Bool.{not, cond, _&&_, _||_};
+ghost use mathlib.Core.Bool.{cond};
 ghost use Rattle.units.specs.Limits.{placeCount};
 ghost use Rattle.places.specs.Places.{flowOf};
-ghost use Rattle.places.specs.Choice.{comesBefore};
+ghost use Rattle.places.specs.Choice.{comesBefore, goesFirst};
 ghost use Rattle.urgent.specs.declared.Answer.the-variants.{Sent, Idle};
 ghost use Rattle.urgent.specs.Lane.{isHeld, keyOf, lastIs};
 ghost use Rattle.urgent.specs.Calls.{turnOf};
@@ -27,13 +27,14 @@ impl Urgent {
                 answer: Answer::Refused(Refusal::SlotsUsedUp),
             };
         }
-        let mut cells = self.cells;
-        let mut best: usize = 256;
-        let mut sent = Cell {
+        let free = Cell {
             held: false,
             number: 0,
             last: Slot(0),
         };
+        let mut cells = self.cells;
+        let mut best: usize = 256;
+        let mut sent = free;
         if usable {
             let mut i: usize = 0;
             while i < 256 {
@@ -46,29 +47,22 @@ impl Urgent {
             }
         }
         if best < 256 {
-            cells[best] = Cell {
-                held: false,
-                number: 0,
-                last: Slot(0),
-            };
+            cells[best] = free;
         }
         let mut missed: u64 = 0;
         let mut i: usize = 0;
         while i < 256 {
             let c = cells[i];
             if expires(c, now) {
-                cells[i] = Cell {
-                    held: false,
-                    number: 0,
-                    last: Slot(0),
-                };
+                cells[i] = free;
                 missed += 1;
             }
             i += 1;
         }
-        let next = Slot(now + 1);
+        let after = now + 1;
+        let next = Slot(after);
         let flows = self.flows;
-        let answer = told(best, sent, missed);
+        let answer = answering(best, sent, missed);
         Done {
             lane: Urgent {
                 now: next,
@@ -82,7 +76,7 @@ impl Urgent {
 
 // Whether the cell at place k goes before all that the scan met so far: the waiting cell b at place j, or none if b is free.
 fn goes_first(c: Cell, k: usize, b: Cell, j: usize) -> bool
-    ensures { λ r. ⌜ r ≡ (isHeld c && (not (isHeld b) || comesBefore (keyOf k c) (keyOf j b))) ⌝ }
+    ensures { λ r. ⌜ r ≡ goesFirst isHeld keyOf k c j b ⌝ }
 {
     if !c.held {
         return false;
@@ -123,7 +117,7 @@ fn expires(c: Cell, now: u64) -> bool
 }
 
 // What a turn is answered that sent cell c from place k and missed so many; none was sent if c is free.
-fn told(k: usize, c: Cell, missed: u64) -> Answer
+fn answering(k: usize, c: Cell, missed: u64) -> Answer
     ensures { λ r. ⌜ r ≡ cond (isHeld c) (Sent (flowOf placeCount k) (c .number) missed) (Idle missed) ⌝ }
 {
     if c.held {

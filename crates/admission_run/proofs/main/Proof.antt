@@ -7,10 +7,10 @@ use Rattle.admission_run.proofs.main.Statement.{statement}
 use Rattle.admission_run.proofs.main.Tie as tie
 
 abbrev Inv-loop : tie.InvT-loop
-Inv-loop buffer₀ reading₀ turns₀ buffer reading turns = (4096 ≡ length buffer) × (reading .count ≤ 17)
+Inv-loop buffer₀ reading₀ reads₀ buffer reading reads = (4096 ≡ length buffer) × (reading .count ≤ 17)
 
 abbrev μ-loop : tie.MeasureT-loop
-μ-loop buffer₀ reading₀ turns₀ buffer reading turns = turns
+μ-loop buffer₀ reading₀ reads₀ buffer reading reads = reads
 
 buffer-requires : tie.Need-buffer-requires Inv-loop μ-loop
 buffer-requires c κs = search needs
@@ -39,8 +39,8 @@ slice-aggregate-read-part c = search needs
 read-part-requires : tie.Need-read-part-requires Inv-loop μ-loop
 read-part-requires c κs = search needs
 
-sub-turns : tie.Need-sub-turns Inv-loop μ-loop
-sub-turns c = search needs
+sub-reads : tie.Need-sub-reads Inv-loop μ-loop
+sub-reads c = search needs
 
 loop-less : tie.Need-loop-less Inv-loop μ-loop
 loop-less c = search needs
@@ -66,7 +66,7 @@ main-spec =
     array-share-prefix-buffer
     slice-aggregate-read-part
     read-part-requires
-    sub-turns
+    sub-reads
     loop-less
     loop-again
     returns-2)

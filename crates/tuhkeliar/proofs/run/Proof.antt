@@ -1,4 +1,4 @@
--- `run` is safe and ends. The invariant: both buffers keep their length. The measure is the turns left.
+-- `run` is safe and ends. The invariant: both buffers keep their length. The measure is the reads left.
 use mathlib.Core.Path.{_≡_}
 use borrow.Author.Needs.{needs}
 use lib.ListN.{length}
@@ -6,10 +6,10 @@ use Rattle.tuhkeliar.proofs.run.Statement.{statement}
 use Rattle.tuhkeliar.proofs.run.Tie as tie
 
 abbrev Inv-loop : tie.InvT-loop
-Inv-loop input₀ out₀ session₀ turns₀ input out session turns = (length input ≡ length input₀) × (length out ≡ length out₀)
+Inv-loop input₀ out₀ session₀ reads₀ input out session reads = (length input ≡ length input₀) × (length out ≡ length out₀)
 
 abbrev μ-loop : tie.MeasureT-loop
-μ-loop input₀ out₀ session₀ turns₀ input out session turns = turns
+μ-loop input₀ out₀ session₀ reads₀ input out session reads = reads
 
 fresh-requires : tie.Need-fresh-requires Inv-loop μ-loop
 fresh-requires c κs = search needs
@@ -41,8 +41,8 @@ same-length-2 c = search needs
 returns : tie.Need-returns Inv-loop μ-loop
 returns c = search needs
 
-sub-turns : tie.Need-sub-turns Inv-loop μ-loop
-sub-turns c = search needs
+sub-reads : tie.Need-sub-reads Inv-loop μ-loop
+sub-reads c = search needs
 
 loop-less : tie.Need-loop-less Inv-loop μ-loop
 loop-less c = search needs
@@ -84,7 +84,7 @@ run-spec =
     same-length
     same-length-2
     returns
-    sub-turns
+    sub-reads
     loop-less
     loop-again
     same-length-3

@@ -14,10 +14,10 @@ use Rattle.fair.proofs.Fair.begin.Statement.{statement}
 use Rattle.fair.proofs.Fair.begin.Tie as tie
 
 abbrev Inv-loop : tie.InvT-loop
-Inv-loop self packets best₀ taken₀ i₀ best taken i = (i ≤ 256) × Scanned isHeld keyOf freePacket 256 packets best taken i
+Inv-loop self free packets best₀ taken₀ i₀ best taken i = (i ≤ 256) × Scanned isHeld keyOf freePacket 256 packets best taken i
 
 abbrev μ-loop : tie.MeasureT-loop
-μ-loop self packets best₀ taken₀ i₀ best taken i = 256 - i
+μ-loop self free packets best₀ taken₀ i₀ best taken i = 256 - i
 
 packets-known : (s : tie.Start Inv-loop μ-loop) → length (s .args .self .packets) ≡ 256
 packets-known s = sym (length-map (s .args .self .packets) _) ∙ s .good .0 .1 .1 .1 .1 .1 .1 .0 .1 .0 .1

@@ -16,16 +16,16 @@ use Rattle.urgent.proofs.Urgent.turn.Statement.{statement}
 use Rattle.urgent.proofs.Urgent.turn.Tie as tie
 
 abbrev Inv-loop : tie.InvT-loop
-Inv-loop self usable now cells best₀ sent₀ i₀ best sent i = (i ≤ 256) × Scanned isHeld keyOf freeCell 256 cells best sent i
+Inv-loop self usable now free cells best₀ sent₀ i₀ best sent i = (i ≤ 256) × Scanned isHeld keyOf freeCell 256 cells best sent i
 
 abbrev μ-loop : tie.MeasureT-loop
-μ-loop self usable now cells best₀ sent₀ i₀ best sent i = 256 - i
+μ-loop self usable now free cells best₀ sent₀ i₀ best sent i = 256 - i
 
 abbrev Inv-loop2 : tie.InvT-loop2
-Inv-loop2 self usable now cells₀ best sent missed₀ i₀ cells missed i = (i ≤ 256) × Cleared (lastIs now) freeCell freeCell 256 cells₀ cells missed i
+Inv-loop2 self usable now free cells₀ best sent missed₀ i₀ cells missed i = (i ≤ 256) × Cleared (lastIs now) freeCell freeCell 256 cells₀ cells missed i
 
 abbrev μ-loop2 : tie.MeasureT-loop2
-μ-loop2 self usable now cells₀ best sent missed₀ i₀ cells missed i = 256 - i
+μ-loop2 self usable now free cells₀ best sent missed₀ i₀ cells missed i = 256 - i
 
 cells-known : (s : tie.Start Inv-loop μ-loop Inv-loop2 μ-loop2) → length (s .args .self .cells) ≡ 256
 cells-known s = sym (length-map (s .args .self .cells) _) ∙ s .good .0 .1 .1 .1 .1 .0 .1 .0 .1
@@ -130,11 +130,11 @@ loop2-again c =
     (λ w. rw (w .1, w .2) (search needs, clear-kept (lastIs now) freeCell freeCell 256 was cells missed i l p (inv .1) (gone ∙ w .0 .left)))
     (c .if5 .came)
 
-add-t41 : tie.Need-add-t41 Inv-loop μ-loop Inv-loop2 μ-loop2
-add-t41 c = search needs
+add-after : tie.Need-add-after Inv-loop μ-loop Inv-loop2 μ-loop2
+add-after c = search needs
 
-told-requires : tie.Need-told-requires Inv-loop μ-loop Inv-loop2 μ-loop2
-told-requires c κs = search needs
+answering-requires : tie.Need-answering-requires Inv-loop μ-loop Inv-loop2 μ-loop2
+answering-requires c κs = search needs
 
 returns-2 : tie.Need-returns-2 Inv-loop μ-loop Inv-loop2 μ-loop2
 returns-2 c =
@@ -145,8 +145,8 @@ returns-2 c =
     let sent = j .before .if2 .sent in
     let q = clear-ends (lastIs (s .self .now .0)) freeCell freeCell 256 (j .if4 .cells) (end .cells) (end .missed) (end .i) (end .inv .1) (still-known j) (c .before .before .loop2-test .left) in
     ⊎-elim
-    (λ w. turn-idle (s .self) (s .usable) (search needs) (end .cells) (end .missed) best sent (c .told .result) (c .told .ensures) (w .0) (w .2) (rw (kept j (omega (arith, w .1))) at q))
-    (λ w. turn-sent (s .self) (s .usable) (search needs) (end .cells) (end .missed) best sent (c .told .result) (c .told .ensures) (w .0) (w .2) (rw (sent-away j (w .1)) at q))
+    (λ w. turn-idle (s .self) (s .usable) (search needs) (end .cells) (end .missed) best sent (c .answering .result) (c .answering .ensures) (w .0) (w .2) (rw (kept j (omega (arith, w .1))) at q))
+    (λ w. turn-sent (s .self) (s .usable) (search needs) (end .cells) (end .missed) best sent (c .answering .result) (c .answering .ensures) (w .0) (w .2) (rw (sent-away j (w .1)) at q))
     (found (j .before))
 
 pub turn-spec : {M : Type 1} → statement M
@@ -177,6 +177,6 @@ turn-spec =
     add-i-2
     loop2-less
     loop2-again
-    add-t41
-    told-requires
+    add-after
+    answering-requires
     returns-2)
