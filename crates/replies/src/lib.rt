@@ -14,13 +14,6 @@ pub fn print(reply: Reply, out: &mut [u8; 96]) -> usize
     reply_line(out, reply)
 }
 
-// Puts the line of a refusal at the start of out, and answers how long it is.
-pub fn print_refusal(refusal: Refusal, out: &mut [u8; 96]) -> usize
-    ensures { λ r. ⌜ Printed (refusalLine refusal) (now (out .entry)) (now (out .exit)) r ⌝ }
-{
-    refusal_line(out, refusal)
-}
-
 // The line of a reply, by its lane.
 fn reply_line(out: &mut [u8], reply: Reply) -> usize
     requires { ⌜ 96 ≤ length (now out) ⌝ }

@@ -13,6 +13,8 @@ use Rattle.fair.specs.declared.Done.{Done as FairDone}
 use Rattle.station.specs.Calls.{callOf}
 use Rattle.station.specs.declared.Call.{Call}
 use Rattle.station.specs.declared.Called.{Called}
+use Rattle.station.specs.declared.Reply.{Reply}
+use Rattle.station.specs.declared.Station.{Station}
 use Rattle.lines.specs.declared.Parsed.{Parsed}
 use Rattle.lines.specs.declared.Parsed.the-variants.{Command, NoCommand}
 use Rattle.lines.specs.Reading.{parsedOf}
@@ -31,10 +33,10 @@ not-asked none r p q = refl
 not-asked (some d) r p q = let z : _≡_ {A = ℕ} 0 1 = cc in absurd (omega arith)
 
 -- each way that a byte can go
-pub step-call : (s : Session) (b : ℕ) {r : Parsed} {c k : Call} {d : Called} → b ≡ lineFeed → r ≡ parsedOf (keptAs (s .kept) (s .count)) → r ≡ Command c → c ≡ k → d ≡ callOf (s .station) k
+pub step-call : (s : Session) (b : ℕ) {r : Parsed} {c : Call} {d : Called} → b ≡ lineFeed → r ≡ parsedOf (keptAs (s .kept) (s .count)) → r ≡ Command c → d ≡ callOf (s .station) c
     → stepOf s b ≡ record { session = record { station = d .station; kept = s .kept; count = 0 }; text = lineOf (d .reply) }
 unfolding stepOf
-step-call s b {r} {c} {k} {d} l p q h e = rw (eq-eqb b lineFeed l, asked (keptAs (s .kept) (s .count)) r c p q, h, e)
+step-call s b {r} {c} {d} l p q e = rw (eq-eqb b lineFeed l, asked (keptAs (s .kept) (s .count)) r c p q, e)
 
 pub step-none : (s : Session) (b : ℕ) {r : Parsed} → b ≡ lineFeed → r ≡ parsedOf (keptAs (s .kept) (s .count)) → r ≡ NoCommand
     → stepOf s b ≡ record { session = record { station = s .station; kept = s .kept; count = 0 }; text = noCommandLine }
@@ -118,9 +120,19 @@ going-on {s} {input} {was} {is} {now} {i} {w} g l h t e {is'} {w'} p =
       fits = omega (arith, put-fits p (omega (arith, g .long, g .fits)), g .long);
     }
 
--- the session of both lanes, each as its last call left it, and of the line kept
+-- both lanes, each as its last call left it: as a station, with a reply, and with the line kept
+abbrev pub lanes : UrgentDone → FairDone → Station
+lanes urgent fair = record { urgent = urgent .lane; fair = fair .lane }
+
+abbrev pub called : UrgentDone → FairDone → Reply → Called
+called urgent fair told = record { station = lanes urgent fair; reply = told }
+
 abbrev pub together : UrgentDone → FairDone → List ℕ → ℕ → Session
-together urgent fair kept count = record { station = record { urgent = urgent .lane; fair = fair .lane }; kept = kept; count = count }
+together urgent fair kept count = record { station = lanes urgent fair; kept = kept; count = count }
+
+-- the parts after a call's arm of the code, each by what the arm made of it
+pub answered : (s : Station) {u u' : UrgentDone} {f f' : FairDone} {t t' : Reply} {c c' : Call} → c' ≡ c → u' ≡ u → f' ≡ f → t' ≡ t → called u f t ≡ callOf s c → called u' f' t' ≡ callOf s c'
+answered s a b d e h = rw (a, b, d, e) h
 
 -- the parts after a branch of the code, each by what the branch made of it
 pub arrived : {s : Session} {input was is is' : List ℕ} {u u' : UrgentDone} {f f' : FairDone} {kept kept' : List ℕ} {count count' i w w' : ℕ}

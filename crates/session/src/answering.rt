@@ -29,14 +29,13 @@ pub(crate) fn reply(told: Reply, out: &mut [u8], at: usize) -> usize
     place(text, n, out, at)
 }
 
-// Puts the line for no command into the output at a place, and answers the place after it.
+// Puts the line for no command, a refusal as any, into the output at a place, and answers the place after it.
 pub(crate) fn no_command(out: &mut [u8], at: usize) -> usize
     requires { ⌜ at + 96 ≤ length (now out) ⌝ }
     ensures { λ r. ⌜ Put noCommandLine (now (out .entry)) at (now (out .exit)) r ⌝ }
 {
-    let mut text = [0u8; 96];
-    let n = replies::print_refusal(Refusal::NoCommand, &mut text);
-    place(text, n, out, at)
+    let refused = urgent::Answer::Refused(Refusal::NoCommand);
+    reply(Reply::Urgent(refused), out, at)
 }
 
 // Puts the first n bytes of a text into the output at a place, and answers the place after them.

@@ -68,56 +68,58 @@ impl Session {
             if b == b'\n' {
                 match read(kept, count) {
                     Parsed::Command(call) => {
+                        let mut told = Reply::Urgent(urgent::Answer::Opened);
                         match call {
                             Call::OpenUrgent(flow, deadline) => {
                                 let lane = urgent.lane;
                                 urgent = lane.open(flow, deadline);
                                 let answer = urgent.answer;
-                                w = reply(Reply::Urgent(answer), out, w);
+                                told = Reply::Urgent(answer);
                             }
                             Call::OpenFair(flow, weight) => {
                                 let lane = fair.lane;
                                 fair = lane.open(flow, weight);
                                 let answer = fair.answer;
-                                w = reply(Reply::Fair(answer), out, w);
+                                told = Reply::Fair(answer);
                             }
                             Call::OfferCell(flow) => {
                                 let lane = urgent.lane;
                                 urgent = lane.offer(flow);
                                 let answer = urgent.answer;
-                                w = reply(Reply::Urgent(answer), out, w);
+                                told = Reply::Urgent(answer);
                             }
                             Call::OfferPacket(flow, length) => {
                                 let lane = fair.lane;
                                 fair = lane.offer(flow, length);
                                 let answer = fair.answer;
-                                w = reply(Reply::Fair(answer), out, w);
+                                told = Reply::Fair(answer);
                             }
                             Call::OpenTurn => {
                                 let lane = urgent.lane;
                                 urgent = lane.turn(true);
                                 let answer = urgent.answer;
-                                w = reply(Reply::Urgent(answer), out, w);
+                                told = Reply::Urgent(answer);
                             }
                             Call::LostTurn => {
                                 let lane = urgent.lane;
                                 urgent = lane.turn(false);
                                 let answer = urgent.answer;
-                                w = reply(Reply::Urgent(answer), out, w);
+                                told = Reply::Urgent(answer);
                             }
                             Call::Begin => {
                                 let lane = fair.lane;
                                 fair = lane.begin();
                                 let answer = fair.answer;
-                                w = reply(Reply::Fair(answer), out, w);
+                                told = Reply::Fair(answer);
                             }
                             Call::End => {
                                 let lane = fair.lane;
                                 fair = lane.end();
                                 let answer = fair.answer;
-                                w = reply(Reply::Fair(answer), out, w);
+                                told = Reply::Fair(answer);
                             }
                         }
+                        w = reply(told, out, w);
                     }
                     Parsed::NoCommand => {
                         w = no_command(out, w);
