@@ -54,6 +54,6 @@ pub record RefusedSame (u : Fair) (r : Refusal) : Type 0 where
   pub beginning : refusalIn (beginOf u .answer) ≡ some r → beginOf u .lane ≡ u
   pub ending : refusalIn (endOf u .answer) ≡ some r → endOf u .lane ≡ u
 
--- The numbers of each call's refusals rise, so that the first whose condition holds is the lowest.
+-- The numbers of begin's and of end's refusals rise, so that the first whose condition holds is the lowest; tags has opening and offering.
 abbrev pub GroundsRise : Type 0
 GroundsRise = (u : Fair) → Rises (beginGrounds u) × Rises (endGrounds u)

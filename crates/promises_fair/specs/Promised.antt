@@ -55,7 +55,7 @@ abbrev pub packetKey : Packet → Key
 packetKey a = record { rank = a .start; flow = a .flow; number = a .number }
 
 -- F2: begin takes a packet accepted and not begun, answers its flow, number, length and start tag as at its acceptance, and no such
--- packet comes before it by start tag and flow.
+-- packet comes before it by start tag, flow and number.
 abbrev pub First : Packets → Answer → Type 0
 First h (Begun flow number length start) =
     Some

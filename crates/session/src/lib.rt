@@ -41,7 +41,7 @@ impl Session {
     }
 
     // Takes as much of the input as out has room for, and writes the answers of its lines at the start of out. The lanes are
-    // taken apart so that a line moves only the lane it calls.
+    // taken apart so that a line moves only the lane it calls; the answers that they start with are read by nobody.
     pub fn feed(self, input: &[u8], out: &mut [u8]) -> Fed
         ensures { λ r. ⌜ Feeds self (now (input .entry)) (now (out .entry)) (now (out .exit)) r ⌝ }
     {

@@ -32,7 +32,7 @@ tagGround was start length = (TagsUsedUp, ltb tagLimit (finishAt start length (w
 abbrev pub offeringGrounds : ℕ → Flow → ℕ → Tag → ℕ → List Ground
 offeringGrounds flow was waiting start length = waitingGrounds flow was waiting length ++ tagGround was start length ∷ []
 
--- The numbers of each call's refusals rise, so that the first whose condition holds is the lowest.
+-- The numbers of opening's and of offering's refusals rise, so that the first whose condition holds is the lowest.
 abbrev pub GroundsRise : Type 0
 GroundsRise =
     (flow weight : ℕ) (was : Flow) (waiting : ℕ) (start : Tag) (length : ℕ)
