@@ -6,9 +6,9 @@ use lib.ListN.{getD}
 use Rattle.units.specs.Answers.{Told}
 use Rattle.units.specs.declared.Refusal.{Refusal}
 use Rattle.urgent.specs.declared.Answer.{Answer as UrgentAnswer}
-use Rattle.urgent.specs.declared.Answer.the-variants.{Refused as UrgentRefused, Opened as UrgentOpened, Accepted as CellAccepted, Sent, Idle}
+use Rattle.urgent.specs.declared.Answer.the-variants.{Refused as UrgentRefused, Opened as UrgentOpened, Closed as UrgentClosed, Accepted as CellAccepted, Sent, Idle}
 use Rattle.fair.specs.declared.Answer.{Answer as FairAnswer}
-use Rattle.fair.specs.declared.Answer.the-variants.{Refused as FairRefused, Opened as FairOpened, Accepted as PacketAccepted, Begun, Ended}
+use Rattle.fair.specs.declared.Answer.the-variants.{Refused as FairRefused, Opened as FairOpened, Closed as FairClosed, Accepted as PacketAccepted, Begun, Ended}
 use Rattle.station.specs.Answers.{told, refusalIn}
 use Rattle.station.specs.declared.Called.{Called as StationCalled}
 use Rattle.station.specs.declared.Reply.{Reply}
@@ -16,10 +16,11 @@ use Rattle.station.specs.declared.Reply.the-variants.{Urgent, Fair}
 use Rattle.clib.specs.declared.Answer.{Answer}
 use Rattle.clib.specs.declared.Called.{Called}
 
--- 0 refused, 1 opened, 2 a cell accepted, 3 a cell sent, 4 no cell sent, 5 a packet accepted, 6 a packet begun, 7 a packet ended
+-- 0 refused, 1 opened, 2 a cell accepted, 3 a cell sent, 4 no cell sent, 5 a packet accepted, 6 a packet begun, 7 a packet ended, 8 closed
 abbrev pub urgentKind : UrgentAnswer → ℕ
 urgentKind (UrgentRefused r) = 0
 urgentKind UrgentOpened = 1
+urgentKind UrgentClosed = 8
 urgentKind (CellAccepted number last) = 2
 urgentKind (Sent flow number missed) = 3
 urgentKind (Idle missed) = 4
@@ -27,6 +28,7 @@ urgentKind (Idle missed) = 4
 abbrev pub fairKind : FairAnswer → ℕ
 fairKind (FairRefused r) = 0
 fairKind FairOpened = 1
+fairKind FairClosed = 8
 fairKind (PacketAccepted number start finish) = 5
 fairKind (Begun flow number length start) = 6
 fairKind (Ended flow number length) = 7

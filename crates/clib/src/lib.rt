@@ -4,9 +4,11 @@ mod plain;
 ghost use mathlib.Core.Path.{_≡_};
 ghost use Rattle.urgent.specs.Calls.{turnOf};
 ghost use Rattle.urgent.specs.Calls.{openOf as openUrgentOf};
+ghost use Rattle.urgent.specs.Calls.{closeOf as closeUrgentOf};
 ghost use Rattle.urgent.specs.Calls.{offerOf as offerCellOf};
 ghost use Rattle.fair.specs.Calls.{beginOf, endOf};
 ghost use Rattle.fair.specs.Calls.{openOf as openFairOf};
+ghost use Rattle.fair.specs.Calls.{closeOf as closeFairOf};
 ghost use Rattle.fair.specs.Calls.{offerOf as offerPacketOf};
 ghost use Rattle.station.specs.Calls.{freshStation, byUrgent, byFair};
 ghost use Rattle.units.specs.Radio.{slotsPassed};
@@ -54,6 +56,24 @@ pub extern "C" fn tuhkeliar_open_fair(station: Station, flow: u64, weight: u64) 
     ensures { λ r. ⌜ r ≡ calledOf (byFair station (openFairOf (station .fair) flow weight)) ⌝ }
 {
     let called = station.open_fair(flow, weight);
+    plainly(called)
+}
+
+// Closes a flow of the urgent lane that has no cell waiting.
+#[no_mangle]
+pub extern "C" fn tuhkeliar_close_urgent(station: Station, flow: u64) -> Called
+    ensures { λ r. ⌜ r ≡ calledOf (byUrgent station (closeUrgentOf (station .urgent) flow)) ⌝ }
+{
+    let called = station.close_urgent(flow);
+    plainly(called)
+}
+
+// Closes a flow of the fair lane that has no packet waiting or in service.
+#[no_mangle]
+pub extern "C" fn tuhkeliar_close_fair(station: Station, flow: u64) -> Called
+    ensures { λ r. ⌜ r ≡ calledOf (byFair station (closeFairOf (station .fair) flow)) ⌝ }
+{
+    let called = station.close_fair(flow);
     plainly(called)
 }
 

@@ -33,6 +33,7 @@ fn plain_urgent(answer: urgent::Answer) -> Answer
     match answer {
         urgent::Answer::Refused(refusal) => numbers(0, refusal.number(), 0, 0, 0),
         urgent::Answer::Opened => numbers(1, 0, 0, 0, 0),
+        urgent::Answer::Closed => numbers(8, 0, 0, 0, 0),
         urgent::Answer::Accepted(number, last) => numbers(2, number, last.0, 0, 0),
         urgent::Answer::Sent(flow, number, missed) => numbers(3, flow, number, missed, 0),
         urgent::Answer::Idle(missed) => numbers(4, missed, 0, 0, 0),
@@ -46,6 +47,7 @@ fn plain_fair(answer: fair::Answer) -> Answer
     match answer {
         fair::Answer::Refused(refusal) => numbers(0, refusal.number(), 0, 0, 0),
         fair::Answer::Opened => numbers(1, 0, 0, 0, 0),
+        fair::Answer::Closed => numbers(8, 0, 0, 0, 0),
         fair::Answer::Accepted(number, start, finish) => numbers(5, number, start.0, finish.0, 0),
         fair::Answer::Begun(flow, number, bytes, start) => numbers(6, flow, number, bytes, start.0),
         fair::Answer::Ended(flow, number, bytes) => numbers(7, flow, number, bytes, 0),

@@ -10,7 +10,7 @@ use lib.ListN.{length, set}
 use Rattle.units.specs.Limits.{placeCount, tagLimit, badWeight, badLength}
 use Rattle.units.specs.Refusals.{firstOf}
 use Rattle.units.specs.declared.Tag.{Tag}
-use Rattle.units.specs.declared.Refusal.the-variants.{NoSuchFlow, NotOpen, AlreadyOpen, BeyondLimit, PlacesFull, TagsUsedUp, PacketInService, NothingWaits, NothingInService}
+use Rattle.units.specs.declared.Refusal.the-variants.{NoSuchFlow, NotOpen, AlreadyOpen, BeyondLimit, PlacesFull, TagsUsedUp, PacketInService, NothingWaits, NothingInService, FlowInUse}
 use Rattle.places.specs.Places.{count, placesOf, firstFree}
 use Rattle.places.specs.Choice.{nothing, at}
 use Rattle.places.proofs.Free.{part-full, part-room}
@@ -23,8 +23,8 @@ use Rattle.tags.proofs.Tags.{beyond-told, at-told}
 use Rattle.fair.specs.declared.Fair.{Fair}
 use Rattle.fair.specs.declared.Done.{Done}
 use Rattle.fair.specs.declared.Answer.the-variants.{Accepted, Ended}
-use Rattle.fair.specs.Lane.{idle, flowAt, waiting, startOf, keyOf, chosen, largestEnded}
-use Rattle.fair.specs.Calls.{refused, unless, opened, openOf, offerOf, begun, beginOf, ended, endOf}
+use Rattle.fair.specs.Lane.{idle, flowAt, waitingOf, waiting, serves, startOf, keyOf, chosen, largestEnded}
+use Rattle.fair.specs.Calls.{refused, unless, opened, openOf, closed, closeOf, offerOf, begun, beginOf, ended, endOf}
 
 module _ (u : Fair) (flow weight : ℕ) where
   pub open-1 : 15 < flow → refused u NoSuchFlow ≡ openOf u flow weight
@@ -43,6 +43,29 @@ module _ (u : Fair) (flow weight : ℕ) where
     pub open-ok : flowAt u flow .opened ≡ false → badWeight weight ≡ false → opened u flow weight ≡ openOf u flow weight
     unfolding openOf firstOf
     open-ok o b = rw (le-ltb 15 flow h, o, b)
+
+module _ (u : Fair) (flow : ℕ) where
+  pub close-1 : 15 < flow → refused u NoSuchFlow ≡ closeOf u flow
+  unfolding closeOf firstOf
+  close-1 h = rw (lt-ltb 15 flow h)
+
+  module _ (h : flow ≤ 15) where
+    pub close-2 : not (flowAt u flow .opened) ≡ true → refused u NotOpen ≡ closeOf u flow
+    unfolding closeOf firstOf
+    close-2 o = rw (le-ltb 15 flow h, o)
+
+    module _ (o : not (flowAt u flow .opened) ≡ false) where
+      pub close-waits : 0 < waitingOf u flow → refused u FlowInUse ≡ closeOf u flow
+      unfolding closeOf firstOf
+      close-waits w = rw (le-ltb 15 flow h, o, lt-ltb 0 (waitingOf u flow) w)
+
+      pub close-serves : waitingOf u flow ≤ 0 → serves u flow ≡ true → refused u FlowInUse ≡ closeOf u flow
+      unfolding closeOf firstOf
+      close-serves w s = rw (le-ltb 15 flow h, o, le-ltb 0 (waitingOf u flow) w, s)
+
+      pub close-ok : waitingOf u flow ≤ 0 → serves u flow ≡ false → closed u flow ≡ closeOf u flow
+      unfolding closeOf firstOf
+      close-ok w s = rw (le-ltb 15 flow h, o, le-ltb 0 (waitingOf u flow) w, s)
 
 module _ (u : Fair) (flow bytes : ℕ) where
   pub offer-1 : 15 < flow → refused u NoSuchFlow ≡ offerOf u flow bytes

@@ -8,26 +8,38 @@ use lib.Dec.{ltb, leb, eqb}
 use Rattle.units.specs.Limits.{tagLimit, badWeight, badLength}
 use Rattle.units.specs.Refusals.{firstOf}
 use Rattle.units.specs.declared.Refusal.{Refusal}
-use Rattle.units.specs.declared.Refusal.the-variants.{NoSuchFlow, NotOpen, AlreadyOpen, BeyondLimit, PlacesFull, TagsUsedUp, PacketInService, NothingWaits, NothingInService}
+use Rattle.units.specs.declared.Refusal.the-variants.{NoSuchFlow, NotOpen, AlreadyOpen, BeyondLimit, PlacesFull, TagsUsedUp, PacketInService, NothingWaits, NothingInService, FlowInUse}
 use Rattle.places.specs.Choice.{Choice, nothing, at}
 use Rattle.tags.specs.declared.Packet.{Packet}
 use Rattle.tags.specs.Tags.{finishAt}
 use Rattle.fair.specs.declared.Fair.{Fair}
 use Rattle.fair.specs.declared.Done.{Done}
-use Rattle.fair.specs.Lane.{flowAt, waitingOf, waiting, startOf, chosen}
-use Rattle.fair.specs.Calls.{refused, unless, opened, openOf, accepted, offerOf, begun, beginOf, ended, endOf}
+use Rattle.fair.specs.Lane.{flowAt, waitingOf, waiting, serves, startOf, chosen}
+use Rattle.fair.specs.Calls.{refused, unless, opened, openOf, closed, closeOf, accepted, offerOf, begun, beginOf, ended, endOf}
 
 module _ (u : Fair) (P : Done → Type 0) (no : (r : Refusal) → P (refused u r)) where
-  pub open-cases : (flow weight : ℕ) → (flow ≤ 15 → badWeight weight ≡ false → P (opened u flow weight)) → P (openOf u flow weight)
+  pub open-cases : (flow weight : ℕ) → (flow ≤ 15 → flowAt u flow .opened ≡ false → badWeight weight ≡ false → P (opened u flow weight)) → P (openOf u flow weight)
   unfolding openOf firstOf
-  open-cases flow weight ok = go (ltb 15 flow) refl (flowAt u flow .opened) (badWeight weight) refl
+  open-cases flow weight ok = go (ltb 15 flow) refl (flowAt u flow .opened) refl (badWeight weight) refl
     where
-      go : (a : Bool) → ltb 15 flow ≡ a → (b d : Bool) → badWeight weight ≡ d
+      go : (a : Bool) → ltb 15 flow ≡ a → (b : Bool) → flowAt u flow .opened ≡ b → (d : Bool) → badWeight weight ≡ d
           → P (unless u (cond a (some NoSuchFlow) (cond b (some AlreadyOpen) (cond d (some BeyondLimit) none))) (opened u flow weight))
-      go true p b d q = no NoSuchFlow
-      go false p true d q = no AlreadyOpen
-      go false p false true q = no BeyondLimit
-      go false p false false q = ok (ltb-false 15 flow p) q
+      go true p b o d q = no NoSuchFlow
+      go false p true o d q = no AlreadyOpen
+      go false p false o true q = no BeyondLimit
+      go false p false o false q = ok (ltb-false 15 flow p) o q
+
+  pub close-cases : (flow : ℕ) → (flow ≤ 15 → waitingOf u flow ≤ 0 → serves u flow ≡ false → P (closed u flow)) → P (closeOf u flow)
+  unfolding closeOf firstOf
+  close-cases flow ok = go (ltb 15 flow) refl (flowAt u flow .opened) (ltb 0 (waitingOf u flow)) refl (serves u flow) refl
+    where
+      go : (a : Bool) → ltb 15 flow ≡ a → (b c : Bool) → ltb 0 (waitingOf u flow) ≡ c → (d : Bool) → serves u flow ≡ d
+          → P (unless u (cond a (some NoSuchFlow) (cond (not b) (some NotOpen) (cond (c || d) (some FlowInUse) none))) (closed u flow))
+      go true p b c w d s = no NoSuchFlow
+      go false p false c w d s = no NotOpen
+      go false p true true w d s = no FlowInUse
+      go false p true false w true s = no FlowInUse
+      go false p true false w false s = ok (ltb-false 15 flow p) (ltb-false 0 (waitingOf u flow) w) s
 
   pub offer-cases : (flow length : ℕ)
       → (flow ≤ 15 → flowAt u flow .opened ≡ true → badLength length ≡ false → waitingOf u flow < 16

@@ -12,11 +12,11 @@ use Rattle.places.specs.Choice.{Choice, nothing, at}
 use Rattle.places.proofs.Least.{none-held}
 use Rattle.tags.specs.declared.Packet.{Packet}
 use Rattle.tags.specs.Tags.{freePacket, isHeld}
-use Rattle.tags.specs.Grounds.{openingGrounds, offeringGrounds}
+use Rattle.tags.specs.Grounds.{openingGrounds, closingGrounds, offeringGrounds}
 use Rattle.fair.specs.declared.Fair.{Fair}
 use Rattle.fair.specs.declared.Done.{Done}
-use Rattle.fair.specs.Lane.{flowAt, waitingOf, waiting, startOf, keyOf, chosen, beginGrounds, endGrounds}
-use Rattle.fair.specs.Calls.{refused, unless, opened, openOf, accepted, offerOf, begun, beginOf, ended, endOf}
+use Rattle.fair.specs.Lane.{flowAt, waitingOf, waiting, serves, startOf, keyOf, chosen, beginGrounds, endGrounds}
+use Rattle.fair.specs.Calls.{refused, unless, opened, openOf, closed, closeOf, accepted, offerOf, begun, beginOf, ended, endOf}
 use Rattle.fair.specs.Answers.{refusalIn}
 use Rattle.fair.specs.Laws.{RefusedFirst, RefusedSame}
 
@@ -35,10 +35,12 @@ begin-first u nothing e = rw (eq-eqb (waiting u) 0 (none-held isHeld keyOf freeP
 begin-first u (at place p) e = unless-first u (firstOf (beginGrounds u)) (begun u (at place p)) refl
 
 pub refused-first : (u : Fair) → RefusedFirst u
-unfolding openOf offerOf beginOf endOf
+unfolding openOf closeOf offerOf beginOf endOf
 refused-first u =
     record {
       opening = λ flow weight. unless-first u (firstOf (openingGrounds flow weight (flowAt u flow))) (opened u flow weight) refl;
+      closing = λ flow.
+          unless-first u (firstOf (closingGrounds flow (flowAt u flow) (waitingOf u flow) (serves u flow))) (closed u flow) refl;
       offering = λ flow length.
           unless-first u (firstOf (offeringGrounds flow (flowAt u flow) (waitingOf u flow) (startOf u flow) length)) (accepted u flow length) refl;
       beginning = begin-first u (chosen u) refl;
@@ -58,11 +60,14 @@ begun-same u nothing r q = refl
 begun-same u (at place p) r q = absurd (not-both r q)
 
 pub refused-same : (u : Fair) (r : Refusal) → RefusedSame u r
-unfolding openOf offerOf beginOf endOf
+unfolding openOf closeOf offerOf beginOf endOf
 refused-same u r =
     record {
       opening = λ flow weight.
           unless-same u (firstOf (openingGrounds flow weight (flowAt u flow))) (opened u flow weight) (λ x q. absurd (not-both x q)) r;
+      closing = λ flow.
+          unless-same u (firstOf (closingGrounds flow (flowAt u flow) (waitingOf u flow) (serves u flow))) (closed u flow)
+          (λ x q. absurd (not-both x q)) r;
       offering = λ flow length.
           unless-same u (firstOf (offeringGrounds flow (flowAt u flow) (waitingOf u flow) (startOf u flow) length)) (accepted u flow length)
           (λ x q. absurd (not-both x q)) r;

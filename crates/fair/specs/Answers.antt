@@ -4,12 +4,13 @@ use mathlib.Core.Option.{Option, none, some}
 use Rattle.units.specs.declared.Refusal.{Refusal}
 use Rattle.units.specs.Answers.{Told, refusal, values}
 use Rattle.fair.specs.declared.Answer.{Answer}
-use Rattle.fair.specs.declared.Answer.the-variants.{Refused, Opened, Accepted, Begun, Ended}
+use Rattle.fair.specs.declared.Answer.the-variants.{Refused, Opened, Closed, Accepted, Begun, Ended}
 
 -- accepted: the number, the start and the finish; begun: the flow, the number, the length and the start; ended: the flow, the number and the length
 abbrev pub told : Answer → Told
 told (Refused r) = refusal r
 told Opened = values []
+told Closed = values []
 told (Accepted number start finish) = values (number ∷ start .0 ∷ finish .0 ∷ [])
 told (Begun flow number length start) = values (flow ∷ number ∷ length ∷ start .0 ∷ [])
 told (Ended flow number length) = values (flow ∷ number ∷ length ∷ [])
@@ -17,6 +18,7 @@ told (Ended flow number length) = values (flow ∷ number ∷ length ∷ [])
 abbrev pub refusalIn : Answer → Option Refusal
 refusalIn (Refused r) = some r
 refusalIn Opened = none
+refusalIn Closed = none
 refusalIn (Accepted number start finish) = none
 refusalIn (Begun flow number length start) = none
 refusalIn (Ended flow number length) = none

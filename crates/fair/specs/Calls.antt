@@ -1,5 +1,5 @@
 -- What each call of the fair lane gives, over every state.
-use mathlib.Core.Bool.{true, cond}
+use mathlib.Core.Bool.{true, false, cond}
 use mathlib.Core.Option.{Option, none, some}
 use Prim.Native.Nat.{ℕ, _+_, _*_}
 use lib.Dec.{eqb}
@@ -12,11 +12,11 @@ use Rattle.places.specs.Places.{placesOf, flowOf, firstFree}
 use Rattle.places.specs.Choice.{Choice, nothing, at}
 use Rattle.tags.specs.declared.Packet.{Packet}
 use Rattle.tags.specs.Tags.{freePacket, isHeld}
-use Rattle.tags.specs.Grounds.{openingGrounds, offeringGrounds}
+use Rattle.tags.specs.Grounds.{openingGrounds, closingGrounds, offeringGrounds}
 use Rattle.fair.specs.declared.Fair.{Fair}
 use Rattle.fair.specs.declared.Done.{Done}
-use Rattle.fair.specs.declared.Answer.the-variants.{Refused, Opened, Accepted, Begun, Ended}
-use Rattle.fair.specs.Lane.{idle, flowAt, waitingOf, waiting, startOf, finishTag, chosen, largestEnded, beginGrounds, endGrounds}
+use Rattle.fair.specs.declared.Answer.the-variants.{Refused, Opened, Closed, Accepted, Begun, Ended}
+use Rattle.fair.specs.Lane.{idle, flowAt, waitingOf, waiting, serves, startOf, finishTag, chosen, largestEnded, beginGrounds, endGrounds}
 
 -- a refused call hands the lane back as it was
 abbrev pub refused : Fair → Refusal → Done
@@ -45,6 +45,27 @@ opened u flow weight =
 -- what opening a flow with a weight gives
 unfoldable pub openOf : Fair → ℕ → ℕ → Done
 openOf u flow weight = unless u (firstOf (openingGrounds flow weight (flowAt u flow))) (opened u flow weight)
+
+-- closing: the flow's record keeps its weight, its numbers and its last finish, and loses its mark
+abbrev pub closed : Fair → ℕ → Done
+closed u flow =
+    record {
+      lane =
+          record {
+            time = u .time;
+            ended = u .ended;
+            service = u .service;
+            flows =
+                set (u .flows) flow
+                (record { opened = false; weight = flowAt u flow .weight; next = flowAt u flow .next; finish = flowAt u flow .finish });
+            packets = u .packets;
+          };
+      answer = Closed;
+    }
+
+-- what closing a flow gives
+unfoldable pub closeOf : Fair → ℕ → Done
+closeOf u flow = unless u (firstOf (closingGrounds flow (flowAt u flow) (waitingOf u flow) (serves u flow))) (closed u flow)
 
 -- offering: the packet gets its tags and its number, and takes the flow's first free place; virtual time stays
 abbrev pub accepted : Fair → ℕ → ℕ → Done

@@ -1,5 +1,5 @@
 -- The fair lane's state: what waits where, what is in service, and the conditions under which begin and end are refused.
-use mathlib.Core.Bool.{false, not}
+use mathlib.Core.Bool.{Bool, false, not, _&&_}
 use mathlib.Core.List.{List, [], _∷_}
 use Prim.Native.Nat.{ℕ}
 use lib.Dec.{eqb}
@@ -42,6 +42,10 @@ waitingOf u flow = count isHeld (placesOf placeCount flow (u .packets))
 -- how many packets wait in all
 abbrev pub waiting : Fair → ℕ
 waiting u = count isHeld (u .packets)
+
+-- a packet of the flow is in service
+abbrev pub serves : Fair → ℕ → Bool
+serves u flow = u .service .busy && eqb (u .service .flow) flow
 
 -- a packet offered now starts at the virtual time, or where its flow's last packet finishes if that is later
 abbrev pub startOf : Fair → ℕ → Tag

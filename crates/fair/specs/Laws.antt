@@ -14,9 +14,9 @@ use Rattle.tags.specs.declared.Packet.{Packet}
 use Rattle.tags.specs.Tags.{freePacket, isHeld}
 use Rattle.fair.specs.declared.Fair.{Fair}
 use Rattle.fair.specs.declared.Answer.the-variants.{Begun}
-use Rattle.tags.specs.Grounds.{openingGrounds, offeringGrounds}
-use Rattle.fair.specs.Lane.{flowAt, waitingOf, startOf, keyOf, beginGrounds, endGrounds}
-use Rattle.fair.specs.Calls.{openOf, offerOf, beginOf, endOf}
+use Rattle.tags.specs.Grounds.{openingGrounds, closingGrounds, offeringGrounds}
+use Rattle.fair.specs.Lane.{flowAt, waitingOf, serves, startOf, keyOf, beginGrounds, endGrounds}
+use Rattle.fair.specs.Calls.{openOf, closeOf, offerOf, beginOf, endOf}
 use Rattle.fair.specs.Answers.{refusalIn}
 
 -- what a place holds
@@ -41,6 +41,7 @@ BeginsFirst = (u : Fair) (flow number bytes : ℕ) (start : Tag) → beginOf u .
 -- Each call is refused exactly for the first of its grounds that holds.
 pub record RefusedFirst (u : Fair) : Type 0 where
   pub opening : (flow weight : ℕ) → refusalIn (openOf u flow weight .answer) ≡ firstOf (openingGrounds flow weight (flowAt u flow))
+  pub closing : (flow : ℕ) → refusalIn (closeOf u flow .answer) ≡ firstOf (closingGrounds flow (flowAt u flow) (waitingOf u flow) (serves u flow))
   pub offering :
       (flow length : ℕ)
       → refusalIn (offerOf u flow length .answer) ≡ firstOf (offeringGrounds flow (flowAt u flow) (waitingOf u flow) (startOf u flow) length)
@@ -50,10 +51,11 @@ pub record RefusedFirst (u : Fair) : Type 0 where
 -- A refused call leaves the lane as it was.
 pub record RefusedSame (u : Fair) (r : Refusal) : Type 0 where
   pub opening : (flow weight : ℕ) → refusalIn (openOf u flow weight .answer) ≡ some r → openOf u flow weight .lane ≡ u
+  pub closing : (flow : ℕ) → refusalIn (closeOf u flow .answer) ≡ some r → closeOf u flow .lane ≡ u
   pub offering : (flow length : ℕ) → refusalIn (offerOf u flow length .answer) ≡ some r → offerOf u flow length .lane ≡ u
   pub beginning : refusalIn (beginOf u .answer) ≡ some r → beginOf u .lane ≡ u
   pub ending : refusalIn (endOf u .answer) ≡ some r → endOf u .lane ≡ u
 
--- The numbers of begin's and of end's refusals rise, so that the first whose condition holds is the lowest; tags has opening and offering.
+-- The numbers of begin's and of end's refusals rise, so that the first whose condition holds is the lowest; tags has opening, closing and offering.
 abbrev pub GroundsRise : Type 0
 GroundsRise = (u : Fair) → Rises (beginGrounds u) × Rises (endGrounds u)

@@ -1,4 +1,5 @@
 // The fair lane: sixteen flows with sixteen places each, and one packet in service at a time, the one with the smallest start tag.
+mod closing;
 mod offering;
 mod serving;
 
@@ -36,6 +37,7 @@ pub struct Fair {
 pub enum Answer {
     Refused(Refusal),
     Opened,
+    Closed,
     // The packet's number, its start tag and its finish tag.
     Accepted(u64, Tag, Tag),
     // The flow, the number, the length and the start tag of the packet that goes into service.

@@ -10,8 +10,8 @@ use borrow.Author.Tests.{eqb-true, leb-true}
 use lib.Dec.{leb, eqb}
 use lib.ListN.{length, length-append}
 use Rattle.station.specs.declared.Call.{Call}
-use Rattle.station.specs.declared.Call.the-variants.{OpenUrgent, OpenFair, OfferCell, OfferPacket, OpenTurn, LostTurn, Begin, End}
-use Rattle.lines.specs.Grammar.{blank, largest, bigU, bigF, smallU, smallF, smallT, smallX, smallB, smallE, decimalOf, textOf, Small}
+use Rattle.station.specs.declared.Call.the-variants.{OpenUrgent, OpenFair, CloseUrgent, CloseFair, OfferCell, OfferPacket, OpenTurn, LostTurn, Begin, End}
+use Rattle.lines.specs.Grammar.{blank, largest, bigU, bigF, bigC, smallC, smallU, smallF, smallT, smallX, smallB, smallE, decimalOf, textOf, Small}
 use Rattle.lines.specs.Reading.{isDigit, grown, goesOn, Taken, readOn, readNumber, wordOf, oneOf, twoOf, readSecond, readFirst, readCall, ReadsOneText, TextsFit}
 use Rattle.lines.proofs.Decimal.{decimal-snoc, decimal-digit, read-text, ten-digits}
 
@@ -88,8 +88,10 @@ word-is letter c e =
 
 one-is : (letter a : ℕ) (c : Call) → a ≤ largest → oneOf letter a ≡ some c → Is (letter ∷ blank ∷ decimalOf a) c
 one-is letter a c l e =
-    chosen (Is (letter ∷ blank ∷ decimalOf a)) (eqb letter smallU) (OfferCell a) none c e (λ t. (rw (eqb-true letter smallU t), l))
-    (λ e. absurd (Option·none-ne-some c e))
+    let P = Is (letter ∷ blank ∷ decimalOf a) in
+    chosen P (eqb letter bigC) (CloseUrgent a) _ c e (λ t. (rw (eqb-true letter bigC t), l))
+    (λ e. chosen P (eqb letter smallC) (CloseFair a) _ c e (λ t. (rw (eqb-true letter smallC t), l))
+    (λ e. chosen P (eqb letter smallU) (OfferCell a) none c e (λ t. (rw (eqb-true letter smallU t), l)) (λ e. absurd (Option·none-ne-some c e))))
 
 two-is : (letter a b : ℕ) (c : Call) → a ≤ largest → b ≤ largest → twoOf letter a b ≡ some c → Is (letter ∷ blank ∷ (decimalOf a ++ blank ∷ decimalOf b)) c
 two-is letter a b c l m e =
@@ -143,6 +145,8 @@ read-before n rest l = read-text n (blank ∷ rest) l
 reads-text : (c : Call) → Small c → readCall (textOf c) ≡ some c
 reads-text (OpenUrgent flow deadline) s = rw (read-before flow (decimalOf deadline) (s .0), read-last deadline (s .1))
 reads-text (OpenFair flow weight) s = rw (read-before flow (decimalOf weight) (s .0), read-last weight (s .1))
+reads-text (CloseUrgent flow) s = rw (read-last flow s)
+reads-text (CloseFair flow) s = rw (read-last flow s)
 reads-text (OfferCell flow) s = rw (read-last flow s)
 reads-text (OfferPacket flow len) s = rw (read-before flow (decimalOf len) (s .0), read-last len (s .1))
 reads-text OpenTurn s = refl
@@ -168,6 +172,8 @@ two-long letter a b l m = omega (arith, length-append (decimalOf a) (blank ∷ d
 pub texts-fit : TextsFit
 texts-fit (OpenUrgent flow deadline) s = two-long bigU flow deadline (s .0) (s .1)
 texts-fit (OpenFair flow weight) s = two-long bigF flow weight (s .0) (s .1)
+texts-fit (CloseUrgent flow) s = omega (arith, ten-digits flow s)
+texts-fit (CloseFair flow) s = omega (arith, ten-digits flow s)
 texts-fit (OfferCell flow) s = omega (arith, ten-digits flow s)
 texts-fit (OfferPacket flow len) s = two-long smallF flow len (s .0) (s .1)
 texts-fit OpenTurn s = omega arith

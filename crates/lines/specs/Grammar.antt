@@ -4,7 +4,7 @@ use mathlib.Core.List.{List, [], _∷_, _++_}
 use Prim.Native.Nat.{ℕ, zero, suc, _+_, _/_, _%_, _≤_}
 use lib.Dec.{ltb}
 use Rattle.station.specs.declared.Call.{Call}
-use Rattle.station.specs.declared.Call.the-variants.{OpenUrgent, OpenFair, OfferCell, OfferPacket, OpenTurn, LostTurn, Begin, End}
+use Rattle.station.specs.declared.Call.the-variants.{OpenUrgent, OpenFair, CloseUrgent, CloseFair, OfferCell, OfferPacket, OpenTurn, LostTurn, Begin, End}
 
 -- what stands between two fields of a line
 abbrev pub blank : ℕ
@@ -20,12 +20,18 @@ decimalWithin (suc steps) n = cond (ltb n 10) ((48 + n) ∷ []) (decimalWithin s
 unfoldable pub decimalOf : ℕ → List ℕ
 decimalOf n = decimalWithin n n
 
--- the letters U F u f t x b e
+-- the letters U F C c u f t x b e
 abbrev pub bigU : ℕ
 bigU = 85
 
 abbrev pub bigF : ℕ
 bigF = 70
+
+abbrev pub bigC : ℕ
+bigC = 67
+
+abbrev pub smallC : ℕ
+smallC = 99
 
 abbrev pub smallU : ℕ
 smallU = 117
@@ -49,6 +55,8 @@ smallE = 101
 abbrev pub textOf : Call → List ℕ
 textOf (OpenUrgent flow deadline) = bigU ∷ blank ∷ (decimalOf flow ++ blank ∷ decimalOf deadline)
 textOf (OpenFair flow weight) = bigF ∷ blank ∷ (decimalOf flow ++ blank ∷ decimalOf weight)
+textOf (CloseUrgent flow) = bigC ∷ blank ∷ decimalOf flow
+textOf (CloseFair flow) = smallC ∷ blank ∷ decimalOf flow
 textOf (OfferCell flow) = smallU ∷ blank ∷ decimalOf flow
 textOf (OfferPacket flow len) = smallF ∷ blank ∷ (decimalOf flow ++ blank ∷ decimalOf len)
 textOf OpenTurn = smallT ∷ []
@@ -64,6 +72,8 @@ largest = 4294967295
 abbrev pub Small : Call → Type 0
 Small (OpenUrgent flow deadline) = (flow ≤ largest) × (deadline ≤ largest)
 Small (OpenFair flow weight) = (flow ≤ largest) × (weight ≤ largest)
+Small (CloseUrgent flow) = flow ≤ largest
+Small (CloseFair flow) = flow ≤ largest
 Small (OfferCell flow) = flow ≤ largest
 Small (OfferPacket flow len) = (flow ≤ largest) × (len ≤ largest)
 Small OpenTurn = Unit {0}

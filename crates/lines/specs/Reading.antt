@@ -7,12 +7,12 @@ use Prim.Native.Nat.{ℕ, _+_, _-_, _*_, _≤_}
 use lib.Dec.{leb, eqb}
 use lib.ListN.{length, drop}
 use Rattle.station.specs.declared.Call.{Call}
-use Rattle.station.specs.declared.Call.the-variants.{OpenUrgent, OpenFair, OfferCell, OfferPacket, OpenTurn, LostTurn, Begin, End}
+use Rattle.station.specs.declared.Call.the-variants.{OpenUrgent, OpenFair, CloseUrgent, CloseFair, OfferCell, OfferPacket, OpenTurn, LostTurn, Begin, End}
 use Rattle.lines.specs.declared.Parsed.{Parsed}
 use Rattle.lines.specs.declared.Parsed.the-variants.{Command, NoCommand}
 use Rattle.lines.specs.declared.parsing.Field.{Field}
 use Rattle.lines.specs.declared.parsing.Field.the-variants.{Number, Missing}
-use Rattle.lines.specs.Grammar.{blank, largest, bigU, bigF, smallU, smallF, smallT, smallX, smallB, smallE, textOf, Small}
+use Rattle.lines.specs.Grammar.{blank, largest, bigU, bigF, bigC, smallC, smallU, smallF, smallT, smallX, smallB, smallE, textOf, Small}
 
 -- a byte is one of the digits 0 to 9
 abbrev pub isDigit : ℕ → Bool
@@ -49,7 +49,9 @@ wordOf letter =
 
 -- the command of a letter and one number
 abbrev pub oneOf : ℕ → ℕ → Option Call
-oneOf letter a = cond (eqb letter smallU) (some (OfferCell a)) none
+oneOf letter a =
+    cond (eqb letter bigC) (some (CloseUrgent a))
+    (cond (eqb letter smallC) (some (CloseFair a)) (cond (eqb letter smallU) (some (OfferCell a)) none))
 
 -- the command of a letter and two numbers
 abbrev pub twoOf : ℕ → ℕ → ℕ → Option Call

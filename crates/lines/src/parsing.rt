@@ -120,6 +120,8 @@ fn one(letter: u8, a: u64) -> Parsed
     ensures { λ r. ⌜ r ≡ parsedOf (oneOf letter a) ⌝ }
 {
     match letter {
+        b'C' => Parsed::Command(Call::CloseUrgent(a)),
+        b'c' => Parsed::Command(Call::CloseFair(a)),
         b'u' => Parsed::Command(Call::OfferCell(a)),
         _ => Parsed::NoCommand,
     }

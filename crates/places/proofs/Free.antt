@@ -1,5 +1,6 @@
--- The first free place of a part: each step of a scan from the part's end, and that all are held exactly where none is free.
-use mathlib.Core.Path.{_≡_, refl, subst}
+-- The places of a part: each step of a scan for the first free one from the part's end, that all are held exactly where none is free,
+-- and each step of a tally of the held ones.
+use mathlib.Core.Path.{_≡_, refl, subst, _∙_}
 use mathlib.Core.Bool.{Bool, true, false, not, cond}
 use mathlib.Core.List.{List, [], _∷_}
 use Prim.Native.Nat.{ℕ, suc, _+_, _-_, _≤_, _<_}
@@ -10,7 +11,7 @@ use borrow.Author.Tests.{not-true, not-false}
 use lib.ListN.{length, getD, take, drop, length-take, length-drop, drop-of-length-le}
 use lib.Seq.{drop-cons, getD-take, getD-drop}
 use Rattle.places.specs.Places.{bit, count, firstFree}
-use Rattle.places.proofs.Count.{count-le-length}
+use Rattle.places.proofs.Count.{count-le-length, tally-more, tally-same, tally-ends}
 
 module _ {A : Type 0} (held : A → Bool) where
   -- where some place is free, not all are held
@@ -69,9 +70,24 @@ module _ {A : Type 0} (held : A → Bool) (d : A) (all : List A) (b n : ℕ) (fi
     pub part-room : k < n → count held part < n
     part-room f = omega (arith, part-length, free-left held part (omega (arith, part-length)))
 
+  -- the part's places are those from b on
+  part-at : (i : ℕ) → i < n → getD part i d ≡ getD all (b + i) d
+  part-at i h = getD-take n (drop b all) i d h ∙ getD-drop b all i d
+
+  -- a tally of the part's held places that has come to its place i
+  module _ (i m : ℕ) (h : i < n) (e : m ≡ count held (take i part)) where
+    pub part-more : held (getD all (b + i) d) ≡ true → m + 1 ≡ count held (take (i + 1) part)
+    part-more t = tally-more held part i m d (omega (arith, part-length)) e (rw (part-at i h) t)
+
+    pub part-same : held (getD all (b + i) d) ≡ false → m ≡ count held (take (i + 1) part)
+    part-same t = tally-same held part i m d (omega (arith, part-length)) e (rw (part-at i h) t)
+
+  pub part-ends : (i m : ℕ) → m ≡ count held (take i part) → n ≤ i → m ≡ count held part
+  part-ends i m e h = tally-ends held part i m e (omega (arith, part-length))
+
   step : (i : ℕ) → i < n → firstFree held (drop i part) ≡ cond (held (getD all (b + i) d)) (suc (firstFree held (drop (suc i) part))) 0
   unfolding firstFree
-  step i h = rw (drop-cons part i d (omega (arith, part-length)), getD-take n (drop b all) i d h, getD-drop b all i d)
+  step i h = rw (drop-cons part i d (omega (arith, part-length)), part-at i h)
 
   back : (i : ℕ) → 0 < i → i ≤ n → firstFree held (drop (i - 1) part) ≡ cond (held (getD all (b + (i - 1)) d)) (suc (firstFree held (drop i part))) 0
   back i l h =

@@ -9,3 +9,4 @@ pub mod Apart
 pub mod Members
 pub mod Tests
 pub mod Stores
+pub mod Marks

@@ -35,6 +35,10 @@ module _ {A : Type 0} where
   each-map P Q f [] e = tt
   each-map P Q f (x ∷ xs) e = (f x (e .0), each-map P Q f xs (e .1))
 
+  pub each-both : (P Q : A → Type 0) (xs : List A) → Each P xs → Each Q xs → Each (λ x. P x × Q x) xs
+  each-both P Q [] p q = tt
+  each-both P Q (x ∷ xs) p q = ((p .0, q .0), each-both P Q xs (p .1) (q .1))
+
   pub some-map : (P Q : A → Type 0) → ((x : A) → P x → Q x) → (xs : List A) → Some P xs → Some Q xs
   some-map P Q f [] e = absurd e
   some-map P Q f (x ∷ xs) (inl p) = inl (f x p)

@@ -1,5 +1,5 @@
 -- A store in a list of places: what stands where after it, and a count before and after it. A flow's first free place is free and its own.
-use mathlib.Core.Path.{_≡_}
+use mathlib.Core.Path.{_≡_, refl}
 use mathlib.Core.Bool.{Bool, false}
 use mathlib.Core.List.{List}
 use Prim.Native.Nat.{ℕ, _+_, _*_, _≤_, _<_}
@@ -20,6 +20,10 @@ module _ {A : Type 0} (xs : List A) (i : ℕ) (x d : A) (low : i < length xs) wh
       go : Dec (j ≡ i) → P (getD (set xs i x) j d)
       go (yes e) = rw (e, getD-set-same xs i x d low) (same e)
       go (no n) = rw (getD-set-other xs i j x d n) (other n)
+
+  -- a field that is stored as it was is as it was everywhere
+  pub set-keeps : {B : Type 0} (field : A → B) → field x ≡ field (getD xs i d) → (j : ℕ) → field (getD (set xs i x) j d) ≡ field (getD xs j d)
+  set-keeps field same j = set-cases j (λ y. field y ≡ field (getD xs j d)) (λ e. rw e same) (λ n. refl)
 
   -- a store where nothing was counted
   pub at-more : (p : ℕ → A → Bool) → p i (getD xs i d) ≡ false → countAt p 0 (set xs i x) ≡ bit (p i x) + countAt p 0 xs

@@ -8,18 +8,18 @@ use borrow.Author.Tests.{not-true, not-false}
 use Rattle.station.specs.declared.Station.{Station}
 use Rattle.station.specs.declared.Reply.{Reply}
 use Rattle.station.specs.declared.Call.{Call}
-use Rattle.station.specs.declared.Call.the-variants.{OpenUrgent, OpenFair, OfferCell, OfferPacket, OpenTurn, LostTurn, Begin, End}
+use Rattle.station.specs.declared.Call.the-variants.{OpenUrgent, OpenFair, CloseUrgent, CloseFair, OfferCell, OfferPacket, OpenTurn, LostTurn, Begin, End}
 use Rattle.station.specs.Calls.{freshStation, callOf}
 use Rattle.station.specs.Laws.{isUrgent}
 use Rattle.station.proofs.Laws.{lanes-apart}
 use Rattle.units.specs.Refusals.{firstOf}
 use Rattle.station.specs.Answers.{refusalIn}
 use Rattle.promises_urgent.proofs.Account.{refused-as-told as urgent-told}
-use Rattle.promises_fair.proofs.Account.{refused-as-told as fair-told, opening-keeps, offer-keeps, never-falls}
+use Rattle.promises_fair.proofs.Account.{refused-as-told as fair-told, opening-keeps, closing-keeps, offer-keeps, never-falls}
 use Rattle.promises_fair.specs.Packets.{virtualTime}
-use Rattle.fair.specs.Calls.{openOf as openFairOf, offerOf as offerPacketOf}
-use Rattle.promises_fair.proofs.Good.{Good as FairGood, good-fresh as fair-fresh, good-open as fair-open, good-offer as fair-offer, good-begin, good-end, good-other}
-use Rattle.promises_urgent.proofs.Good.{Good, good-fresh, good-open, good-offer, good-turn}
+use Rattle.fair.specs.Calls.{openOf as openFairOf, closeOf as closeFairOf, offerOf as offerPacketOf}
+use Rattle.promises_fair.proofs.Good.{Good as FairGood, good-fresh as fair-fresh, good-open as fair-open, good-close as fair-close, good-offer as fair-offer, good-begin, good-end, good-other}
+use Rattle.promises_urgent.proofs.Good.{Good, good-fresh, good-open, good-close, good-offer, good-turn}
 use Rattle.promises.specs.Promises.{isFair, groundsTold}
 use Rattle.promises.specs.Run.{Run, after, fresh, run, runFrom, replies, repliesTo, only}
 
@@ -36,6 +36,8 @@ good-after : (r : Run) (call : Call) → GoodRun r → GoodRun (after r call)
 unfolding callOf
 good-after r (OpenUrgent flow deadline) g = good-open (r .station .urgent) (r .cells) g flow deadline
 good-after r (OpenFair flow weight) g = g
+good-after r (CloseUrgent flow) g = good-close (r .station .urgent) (r .cells) g flow
+good-after r (CloseFair flow) g = g
 good-after r (OfferCell flow) g = good-offer (r .station .urgent) (r .cells) g flow
 good-after r (OfferPacket flow length) g = g
 good-after r OpenTurn g = good-turn (r .station .urgent) (r .cells) g true
@@ -59,6 +61,8 @@ fair-after : (r : Run) (call : Call) → FairRun r → FairRun (after r call)
 unfolding callOf
 fair-after r (OpenUrgent flow deadline) g = good-other (r .station .fair) (r .packets) g
 fair-after r (OpenFair flow weight) g = fair-open (r .station .fair) (r .packets) g flow weight
+fair-after r (CloseUrgent flow) g = good-other (r .station .fair) (r .packets) g
+fair-after r (CloseFair flow) g = fair-close (r .station .fair) (r .packets) g flow
 fair-after r (OfferCell flow) g = good-other (r .station .fair) (r .packets) g
 fair-after r (OfferPacket flow length) g = fair-offer (r .station .fair) (r .packets) g flow length
 fair-after r OpenTurn g = good-other (r .station .fair) (r .packets) g
@@ -79,6 +83,8 @@ time-after : (r : Run) (call : Call) → FairRun r → virtualTime (r .packets .
 unfolding callOf
 time-after r (OpenUrgent flow deadline) g = le-refl (virtualTime (r .packets .moments))
 time-after r (OpenFair flow weight) g = opening-keeps (r .packets) flow weight (openFairOf (r .station .fair) flow weight .answer)
+time-after r (CloseUrgent flow) g = le-refl (virtualTime (r .packets .moments))
+time-after r (CloseFair flow) g = closing-keeps (r .packets) flow (closeFairOf (r .station .fair) flow .answer)
 time-after r (OfferCell flow) g = le-refl (virtualTime (r .packets .moments))
 time-after r (OfferPacket flow length) g = offer-keeps (r .packets) flow length (offerPacketOf (r .station .fair) flow length .answer)
 time-after r OpenTurn g = le-refl (virtualTime (r .packets .moments))
@@ -99,6 +105,8 @@ refused-from : (r : Run) → GoodRun r → FairRun r → (call : Call) → refus
 unfolding callOf
 refused-from r g f (OpenUrgent flow deadline) = urgent-told (r .station .urgent) (r .cells) (g .kept) .opening flow deadline
 refused-from r g f (OpenFair flow weight) = fair-told (r .station .fair) (r .packets) f .opening flow weight
+refused-from r g f (CloseUrgent flow) = urgent-told (r .station .urgent) (r .cells) (g .kept) .closing flow
+refused-from r g f (CloseFair flow) = fair-told (r .station .fair) (r .packets) f .closing flow
 refused-from r g f (OfferCell flow) = urgent-told (r .station .urgent) (r .cells) (g .kept) .offering flow
 refused-from r g f (OfferPacket flow length) = fair-told (r .station .fair) (r .packets) f .offering flow length
 refused-from r g f OpenTurn = urgent-told (r .station .urgent) (r .cells) (g .kept) .turning true

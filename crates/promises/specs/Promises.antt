@@ -6,17 +6,18 @@ use mathlib.Core.Option.{none}
 use Prim.Native.Nat.{ℕ, _+_, _%_, _≤_, _<_}
 use Rattle.units.specs.Refusals.{Ground, numberOf, firstOf}
 use Rattle.units.specs.declared.Refusal.{Refusal}
-use Rattle.units.specs.declared.Refusal.the-variants.{NoSuchFlow, NotOpen, AlreadyOpen, BeyondLimit, PlacesFull, TagsUsedUp, SlotsUsedUp, PacketInService, NothingWaits, NothingInService, NoCommand}
+use Rattle.units.specs.declared.Refusal.the-variants.{NoSuchFlow, NotOpen, AlreadyOpen, BeyondLimit, PlacesFull, TagsUsedUp, SlotsUsedUp, PacketInService, NothingWaits, NothingInService, NoCommand, FlowInUse}
 use Rattle.units.specs.Charges.{ProductRule}
 use Rattle.units.specs.Radio.{slotsPassed}
 use Rattle.admission.specs.Published.{Published}
-use Rattle.promises_urgent.specs.Promised.{OnTime, acceptedOf, Accounted, Earliest, lastIn, Numbered, FewNumbers, OwnPlan, NoneBetter, Explained}
-use Rattle.promises_urgent.specs.Refused.{openingTold as urgentOpening, offeringTold as cellOffering, turnTold}
+use Rattle.promises_urgent.specs.Promised.{OnTime, acceptedOf, Accounted, Earliest, lastIn, Numbered, FewNumbers, OwnPlan, NoneBetter, Explained, TermsStand}
+use Rattle.promises_urgent.specs.Refused.{openingTold as urgentOpening, closingTold as urgentClosing, offeringTold as cellOffering, turnTold}
 use Rattle.promises_fair.specs.Packets.{virtualTime}
 use Rattle.promises_fair.specs.Promised.{acceptedOf as packetsOf, startIn, finishTag, First, ServedInOrder, LastBegun, EndsAndNumbers}
-use Rattle.promises_fair.specs.Refused.{openingTold as fairOpening, offeringTold as packetOffering, beginTold, endTold}
+use Rattle.promises_fair.specs.Promised.{TermsStand as FairTermsStand}
+use Rattle.promises_fair.specs.Refused.{openingTold as fairOpening, closingTold as fairClosing, offeringTold as packetOffering, beginTold, endTold}
 use Rattle.station.specs.declared.Call.{Call}
-use Rattle.station.specs.declared.Call.the-variants.{OpenUrgent, OpenFair, OfferCell, OfferPacket, OpenTurn, LostTurn, Begin, End}
+use Rattle.station.specs.declared.Call.the-variants.{OpenUrgent, OpenFair, CloseUrgent, CloseFair, OfferCell, OfferPacket, OpenTurn, LostTurn, Begin, End}
 use Rattle.station.specs.Calls.{freshStation}
 use Rattle.station.specs.Answers.{told, refusalIn}
 use Rattle.station.specs.InKind.{AnsweredInKind}
@@ -44,13 +45,16 @@ inOrder =
     ∷ NothingWaits
     ∷ NothingInService
     ∷ NoCommand
+    ∷ FlowInUse
     ∷ []
 
--- what a call is refused for, read off the calls and replies so far: opened is an opening answered ok; waiting is accepted, not sent
+-- what a call is refused for, read off the calls and replies so far: open is opened and not closed since; waiting is accepted, not sent
 -- and not gone by, or accepted and not begun; in service is a begin answered and no end since; the slot is U0's and the tags are F1's
 abbrev pub groundsTold : Run → Call → List Ground
 groundsTold r (OpenUrgent flow deadline) = urgentOpening (r .cells) flow deadline
 groundsTold r (OpenFair flow weight) = fairOpening (r .packets) flow weight
+groundsTold r (CloseUrgent flow) = urgentClosing (r .cells) flow
+groundsTold r (CloseFair flow) = fairClosing (r .packets) flow
 groundsTold r (OfferCell flow) = cellOffering (r .cells) flow
 groundsTold r (OfferPacket flow length) = packetOffering (r .packets) flow length
 groundsTold r OpenTurn = turnTold (r .cells)
@@ -70,7 +74,7 @@ pub record Promises : Type 0 where
   pub S2-number : NumberTold
   pub S2-lowest : GroundsRise
   -- and the refusals have the rules' numbers
-  pub S2-numbers : map numberOf inOrder ≡ 1 ∷ 2 ∷ 3 ∷ 4 ∷ 5 ∷ 6 ∷ 7 ∷ 8 ∷ 9 ∷ 10 ∷ 11 ∷ []
+  pub S2-numbers : map numberOf inOrder ≡ 1 ∷ 2 ∷ 3 ∷ 4 ∷ 5 ∷ 6 ∷ 7 ∷ 8 ∷ 9 ∷ 10 ∷ 11 ∷ 12 ∷ []
   -- S3: the lanes share nothing: the replies to one lane's calls are the replies to those calls alone
   pub S3-urgent : (calls : List Call) → repliesTo isUrgent freshStation calls ≡ replies freshStation (only isUrgent calls)
   pub S3-fair : (calls : List Call) → repliesTo isFair freshStation calls ≡ replies freshStation (only isFair calls)
@@ -94,6 +98,8 @@ pub record Promises : Type 0 where
   pub U5 : (calls : List Call) → NoneBetter (run calls .cells)
   -- U6: every missed cell has a reason
   pub U6 : (calls : List Call) → Explained (run calls .cells)
+  -- U7: no opening or closing touches the terms of a cell that waits: its flow is open, with the deadline of its acceptance
+  pub U7 : (calls : List Call) → TermsStand (run calls .cells)
   -- F1: virtual time is the published one, and an accepted packet is told the published tags
   pub F1-time : (calls : List Call) → run calls .station .fair .time .0 ≡ virtualTime (run calls .packets .moments)
   pub F1 :
@@ -109,6 +115,8 @@ pub record Promises : Type 0 where
   -- F4: virtual time never falls, and every charge times its weight is 720,720
   pub F4 : (xs ys : List Call) → virtualTime (run xs .packets .moments) ≤ virtualTime (run (xs ++ ys) .packets .moments)
   pub F4-charges : ProductRule
+  -- F5: nor those of a packet that waits or is in service: its flow is open, with the weight that it was charged by
+  pub F5 : (calls : List Call) → FairTermsStand (run calls .packets)
   -- A1: admission is the published link test
   pub A1 : Published
   -- R1: slots passed are below 65,536 and lead from the earlier count to the later; equal counts give 0

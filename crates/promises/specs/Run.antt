@@ -3,25 +3,28 @@ use mathlib.Core.Bool.{Bool, true, false, cond}
 use mathlib.Core.List.{List, [], _∷_}
 use Rattle.urgent.specs.declared.Answer.{Answer as UrgentAnswer}
 use Rattle.fair.specs.declared.Answer.{Answer as FairAnswer}
-use Rattle.promises_urgent.specs.Cells.{Cells, noCells, noteOpening, noteOffer, noteTurn}
+use Rattle.promises_urgent.specs.Cells.{Cells, noCells}
+use Rattle.promises_urgent.specs.Notes.{noteOpening, noteClosing, noteOffer, noteTurn}
 use Rattle.promises_fair.specs.Packets.{Packets, noPackets}
 use Rattle.promises_fair.specs.Notes.{noteOther, noteService}
-use Rattle.promises_fair.specs.Notes.{noteOpening as noteFairOpening, noteOffer as notePacket}
+use Rattle.promises_fair.specs.Notes.{noteOpening as noteFairOpening, noteClosing as noteFairClosing, noteOffer as notePacket}
 use Rattle.station.specs.declared.Station.{Station}
 use Rattle.station.specs.declared.Reply.{Reply}
 use Rattle.station.specs.declared.Reply.the-variants.{Urgent, Fair}
 use Rattle.station.specs.declared.Call.{Call}
-use Rattle.station.specs.declared.Call.the-variants.{OpenUrgent, OpenFair, OfferCell, OfferPacket, OpenTurn, LostTurn, Begin, End}
+use Rattle.station.specs.declared.Call.the-variants.{OpenUrgent, OpenFair, CloseUrgent, CloseFair, OfferCell, OfferPacket, OpenTurn, LostTurn, Begin, End}
 use Rattle.station.specs.Calls.{freshStation, callOf}
 
 -- what a call and its reply tell of the cells
 abbrev pub noteCells : Cells → Call → Reply → Cells
 noteCells h call (Fair answer) = h
 noteCells h (OpenUrgent flow deadline) (Urgent answer) = noteOpening h flow deadline answer
+noteCells h (CloseUrgent flow) (Urgent answer) = noteClosing h flow answer
 noteCells h (OfferCell flow) (Urgent answer) = noteOffer h flow answer
 noteCells h OpenTurn (Urgent answer) = noteTurn h true answer
 noteCells h LostTurn (Urgent answer) = noteTurn h false answer
 noteCells h (OpenFair flow weight) (Urgent answer) = h
+noteCells h (CloseFair flow) (Urgent answer) = h
 noteCells h (OfferPacket flow length) (Urgent answer) = h
 noteCells h Begin (Urgent answer) = h
 noteCells h End (Urgent answer) = h
@@ -30,10 +33,12 @@ noteCells h End (Urgent answer) = h
 abbrev pub notePackets : Packets → Call → Reply → Packets
 notePackets h call (Urgent answer) = noteOther h
 notePackets h (OpenFair flow weight) (Fair answer) = noteFairOpening h flow weight answer
+notePackets h (CloseFair flow) (Fair answer) = noteFairClosing h flow answer
 notePackets h (OfferPacket flow length) (Fair answer) = notePacket h flow length answer
 notePackets h Begin (Fair answer) = noteService h answer
 notePackets h End (Fair answer) = noteService h answer
 notePackets h (OpenUrgent flow deadline) (Fair answer) = noteOther h
+notePackets h (CloseUrgent flow) (Fair answer) = noteOther h
 notePackets h (OfferCell flow) (Fair answer) = noteOther h
 notePackets h OpenTurn (Fair answer) = noteOther h
 notePackets h LostTurn (Fair answer) = noteOther h

@@ -15,17 +15,17 @@ use Rattle.tags.specs.declared.Packet.{Packet as Place}
 use Rattle.fair.specs.declared.Service.{Service}
 use Rattle.fair.specs.declared.Fair.{Fair}
 use Rattle.fair.specs.declared.Answer.{Answer}
-use Rattle.fair.specs.declared.Answer.the-variants.{Refused, Opened, Accepted, Begun, Ended}
+use Rattle.fair.specs.declared.Answer.the-variants.{Refused, Opened, Closed, Accepted, Begun, Ended}
 use Rattle.fair.specs.Answers.{told, refusalIn}
 use Rattle.fair.specs.Calls.{offerOf}
 use Rattle.fair.specs.Lane.{keyOf, chosen}
 use Rattle.fair.proofs.Cases.{offer-cases, begin-cases, end-cases}
 use Rattle.fair.proofs.Refused.{refused-first}
 use Rattle.promises_fair.specs.Packets.{Packet, Moment, began, ceased, Packets, waits, waitingAll, inService, lastStart, largestEnded, virtualTime}
-use Rattle.promises_fair.specs.Notes.{noteOpening, noteOffer, noteService}
+use Rattle.promises_fair.specs.Notes.{noteOpening, noteClosing, noteOffer, noteService}
 use Rattle.promises_fair.specs.Promised.{acceptedOf, startIn, finishTag, Tagged, AsPublished, packetKey, First, ServedInOrder, LastBegun, EndsAndNumbers, NeverFalls}
 use Rattle.promises_fair.specs.Refused.{RefusedAsTold}
-use Rattle.promises_fair.proofs.Kept.{asks, Serves, waiting-told, waiting-all}
+use Rattle.promises_fair.proofs.Kept.{asks, Serves, serving-told, waiting-told, waiting-all}
 use Rattle.promises_fair.proofs.Offered.{start-told, finish-told}
 use Rattle.promises_fair.proofs.Chosen.{placeFlow, before, WaitsAt, none-before, chosen-waits, chosen-late}
 use Rattle.promises_fair.proofs.Ceased.{finishOfThis, InService, in-service}
@@ -41,8 +41,8 @@ as-published u h g =
           offer-cases u (λ d. Tagged h flow length (d .answer)) (λ r. tt) flow length
           (λ low o good room fits few. (
             k .next flow (omega arith),
-            start-told u (h .openings) (h .accepted) (h .moments) k flow low,
-            finish-told u (h .openings) (h .accepted) (h .moments) k flow low length,
+            start-told u (h .marks) (h .accepted) (h .moments) k flow low,
+            finish-told u (h .marks) (h .accepted) (h .moments) k flow low length,
           ));
     }
 
@@ -54,7 +54,7 @@ module _ (u : Fair) (h : Packets) (g : Good u h) (place : ℕ) (p : Place) (e : 
 
   begun-first : First h (Begun (placeFlow place) (p .number) (p .length) (p .start))
   begun-first =
-      let none = none-before u (h .openings) (h .accepted) (h .moments) (g .kept) place p e in
+      let none = none-before u (h .marks) (h .accepted) (h .moments) (g .kept) place p e in
       some-map (WaitsAt (h .moments) place p) _
       (λ a t.
       let s : packetKey a ≡ keyOf place p = λ i. record { rank = t .1 .3 i; flow = t .1 .0 i; number = t .1 .1 i } in (
@@ -65,7 +65,7 @@ module _ (u : Fair) (h : Packets) (g : Good u h) (place : ℕ) (p : Place) (e : 
         t .1 .3,
         each-map (λ (b : Packet). (asks (before place p) b && waits h b) ≡ false) _ (not-before a s) (h .accepted) (none-passes _ (h .accepted) none),
       ))
-      (h .accepted) (chosen-waits u (h .openings) (h .accepted) (h .moments) (g .kept) place p e)
+      (h .accepted) (chosen-waits u (h .marks) (h .accepted) (h .moments) (g .kept) place p e)
 
 pub served-in-order : (u : Fair) (h : Packets) → Good u h → ServedInOrder u h
 served-in-order u h g =
@@ -98,7 +98,7 @@ never-falls u h g =
     record {
       begins =
           begin-cases u (λ d. virtualTime (h .moments) ≤ virtualTime (noteService h (d .answer) .moments)) (λ r. le-refl (virtualTime (h .moments)))
-          (λ b place p e. chosen-late u (h .openings) (h .accepted) (h .moments) (g .kept) place p e (g .paced));
+          (λ b place p e. chosen-late u (h .marks) (h .accepted) (h .moments) (g .kept) place p e (g .paced));
       ends =
           end-cases u (λ d. virtualTime (h .moments) ≤ virtualTime (noteService h (d .answer) .moments)) (λ r. le-refl (virtualTime (h .moments)))
           (λ b. go (in-service (u .service) (h .accepted) (h .moments) b (g .kept .service) (g .paced .inHand)) (eqb (waitingAll h) 0));
@@ -121,16 +121,24 @@ refused-as-told u h g =
     let busy = busy-told (u .service) (h .accepted) (h .moments) (k .service) in
     record {
       opening = λ flow weight. refused-first u .opening flow weight ∙ after-flow flow _ _ (λ l. rw (k .openFlows flow (omega arith)));
+      closing = λ flow.
+          refused-first u .closing flow
+          ∙ after-flow flow _ _
+          (λ l. rw (
+            k .openFlows flow (omega arith),
+            waiting-told u (h .marks) (h .accepted) (h .moments) k flow (omega arith),
+            serving-told (u .service) (h .accepted) (h .moments) (k .service) flow,
+          ));
       offering = λ flow length.
           refused-first u .offering flow length
           ∙ after-flow flow _ _
           (λ l. rw (
             k .openFlows flow (omega arith),
-            waiting-told u (h .openings) (h .accepted) (h .moments) k flow (omega arith),
-            finish-told u (h .openings) (h .accepted) (h .moments) k flow l length,
+            waiting-told u (h .marks) (h .accepted) (h .moments) k flow (omega arith),
+            finish-told u (h .marks) (h .accepted) (h .moments) k flow l length,
             k .next flow (omega arith),
           ));
-      beginning = refused-first u .beginning ∙ rw (busy, waiting-all u (h .openings) (h .accepted) (h .moments) k);
+      beginning = refused-first u .beginning ∙ rw (busy, waiting-all u (h .marks) (h .accepted) (h .moments) k);
       ending = refused-first u .ending ∙ rw busy;
     }
 
@@ -143,6 +151,7 @@ offer-told u h g flow length = go (offerOf u flow length .answer) (as-published 
     go (Accepted n s f) t e = rw (t .0, t .1, t .2)
     go (Refused r) t e = absurd (let z : _≡_ {A = ℕ} 0 1 = cc in omega arith)
     go Opened t e = absurd t
+    go Closed t e = absurd t
     go (Begun f n l s) t e = absurd t
     go (Ended f n l) t e = absurd t
 
@@ -150,19 +159,32 @@ offer-told u h g flow length = go (offerOf u flow length .answer) (as-published 
 same-opening : (h : Packets) (flow weight : ℕ) (a : Answer) → noteOpening h flow weight a .moments ≡ h .moments
 same-opening h flow weight (Refused r) = refl
 same-opening h flow weight Opened = refl
+same-opening h flow weight Closed = refl
 same-opening h flow weight (Accepted n s f) = refl
 same-opening h flow weight (Begun f n l s) = refl
 same-opening h flow weight (Ended f n l) = refl
 
+same-closing : (h : Packets) (flow : ℕ) (a : Answer) → noteClosing h flow a .moments ≡ h .moments
+same-closing h flow (Refused r) = refl
+same-closing h flow Opened = refl
+same-closing h flow Closed = refl
+same-closing h flow (Accepted n s f) = refl
+same-closing h flow (Begun f n l s) = refl
+same-closing h flow (Ended f n l) = refl
+
 same-offer : (h : Packets) (flow length : ℕ) (a : Answer) → noteOffer h flow length a .moments ≡ h .moments
 same-offer h flow length (Refused r) = refl
 same-offer h flow length Opened = refl
+same-offer h flow length Closed = refl
 same-offer h flow length (Accepted n s f) = refl
 same-offer h flow length (Begun f n l s) = refl
 same-offer h flow length (Ended f n l) = refl
 
 pub opening-keeps : (h : Packets) (flow weight : ℕ) (a : Answer) → virtualTime (h .moments) ≤ virtualTime (noteOpening h flow weight a .moments)
 opening-keeps h flow weight a = rw (same-opening h flow weight a) (le-refl (virtualTime (h .moments)))
+
+pub closing-keeps : (h : Packets) (flow : ℕ) (a : Answer) → virtualTime (h .moments) ≤ virtualTime (noteClosing h flow a .moments)
+closing-keeps h flow a = rw (same-closing h flow a) (le-refl (virtualTime (h .moments)))
 
 pub offer-keeps : (h : Packets) (flow length : ℕ) (a : Answer) → virtualTime (h .moments) ≤ virtualTime (noteOffer h flow length a .moments)
 offer-keeps h flow length a = rw (same-offer h flow length a) (le-refl (virtualTime (h .moments)))

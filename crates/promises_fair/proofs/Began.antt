@@ -10,6 +10,7 @@ use lib.Dec.{ltb, eqb}
 use lib.ListN.{getD, set, length-set}
 use Rattle.places.specs.Places.{bit, countAt}
 use Rattle.places.specs.Choice.{at}
+use Rattle.places.specs.Marks.{Mark}
 use Rattle.places.proofs.Count.{count-le, count-add, count-and-le, and-le, and-le-right}
 use Rattle.places.proofs.CountAt.{at-le}
 use Rattle.places.proofs.Order.{by-rank}
@@ -20,7 +21,7 @@ use Rattle.tags.specs.Tags.{freePacket}
 use Rattle.fair.specs.declared.Fair.{Fair}
 use Rattle.fair.specs.Lane.{keyOf, chosen}
 use Rattle.fair.specs.Calls.{begun}
-use Rattle.promises_fair.specs.Packets.{Opening, Packet, Moment, began, wasBegun, largestEnded, virtualTime}
+use Rattle.promises_fair.specs.Packets.{Packet, Moment, began, wasBegun, largestEnded, virtualTime}
 use Rattle.promises_fair.specs.Promised.{Question, holds, packetKey, begunOf}
 use Rattle.promises_fair.proofs.Numbers.{isPacket, ofFlow, at-most-one}
 use Rattle.promises_fair.proofs.Kept.{notBegun, asks, asked, Kept, Paced}
@@ -32,10 +33,10 @@ begins place p position = began (placeFlow place) (p .number) (p .length) (p .st
 
 module _
     (u : Fair)
-    (os : List Opening)
+    (marks : List Mark)
     (ps : List Packet)
     (ms : List Moment)
-    (k : Kept u os ps ms)
+    (k : Kept u marks ps ms)
     (t : Paced ps ms)
     (place : ℕ)
     (p : Place)
@@ -44,7 +45,7 @@ module _
   -- its place is free now
   set-out : (ask : Question) → countAt (holds ask) 0 (set (u .packets) place freePacket) + bit (asksAt place p ask) ≡ countAt (holds ask) 0 (u .packets)
   set-out ask =
-      let a = lead u os ps ms k place p e in
+      let a = lead u marks ps ms k place p e in
       let l = at-less (u .packets) place freePacket freePacket (a .0) (holds ask) refl in
       let y : bit (holds ask place (getD (u .packets) place freePacket)) ≡ bit (asksAt place p ask) = rw (a .1, a .2) in
       omega arith
@@ -102,7 +103,7 @@ module _
         both-one ask,
       )
 
-  pub kept-begin : Kept (begun u (at place p) .lane) os ps (begins place p position ∷ ms)
+  pub kept-begin : Kept (begun u (at place p) .lane) marks ps (begins place p position ∷ ms)
   unfolding virtualTime largestEnded
   kept-begin =
       record {
@@ -116,7 +117,7 @@ module _
         tied = λ ask. omega (arith, waits-less ask, set-out ask, k .tied ask);
         time = refl;
         ended = k .ended;
-        service = (refl, refl, refl, refl, sym (chosen-finish u os ps ms k place p e t));
+        service = (refl, refl, refl, refl, sym (chosen-finish u marks ps ms k place p e t));
       }
 
   -- no packet waits that starts earlier
@@ -124,7 +125,7 @@ module _
   none-earlier =
       omega (
         arith,
-        none-before u os ps ms k place p e,
+        none-before u marks ps ms k place p e,
         count-and-le (λ (a : Packet). ltb (a .start) (p .start .0)) (notBegun ms) (asks (before place p)) (notBegun ms)
             (λ a. go a (ltb (a .start) (p .start .0)) refl) (λ a. le-refl (bit (notBegun ms a))) ps,
       )
@@ -140,12 +141,12 @@ module _
         few = t .few;
         numbered = t .numbered;
         rising = t .rising;
-        inOrder = (chosen-next u os ps ms k place p e t, t .inOrder);
+        inOrder = (chosen-next u marks ps ms k place p e t, t .inOrder);
         begun = λ f. go f (eqb (placeFlow place) f) refl;
-        inHand = (chosen-number u os ps ms k place p e t, omega (arith, chosen-finish u os ps ms k place p e t, chosen-tags u os ps ms k place p e t));
+        inHand = (chosen-number u marks ps ms k place p e t, omega (arith, chosen-finish u marks ps ms k place p e t, chosen-tags u marks ps ms k place p e t));
         onTime = omega (arith, waits-less (λ f n l s x. ltb s (p .start .0)), none-earlier);
       }
     where
       go : (f : ℕ) (b : Bool) → eqb (placeFlow place) f ≡ b → bit b + begunOf ms f ≤ ofFlow f ps
-      go f true q = rw (← eqb-true (placeFlow place) f q) (omega (arith, chosen-next u os ps ms k place p e t, chosen-number u os ps ms k place p e t))
+      go f true q = rw (← eqb-true (placeFlow place) f q) (omega (arith, chosen-next u marks ps ms k place p e t, chosen-number u marks ps ms k place p e t))
       go f false q = omega (arith, t .begun f)

@@ -7,13 +7,14 @@ use native.Mathlib.Omega.{arith}
 use borrow.Author.Tests.{eqb-true}
 use lib.Dec.{ltb, eqb}
 use Rattle.places.specs.Places.{count}
+use Rattle.places.specs.Marks.{Mark}
 use Rattle.places.proofs.Count.{count-le, and-le-right}
 use Rattle.tags.proofs.Tags.{later-max}
 use Rattle.fair.specs.declared.Service.{Service}
 use Rattle.fair.specs.declared.Fair.{Fair}
 use Rattle.fair.specs.Lane.{largestEnded as largestOf}
 use Rattle.fair.specs.Calls.{ended}
-use Rattle.promises_fair.specs.Packets.{Opening, Packet, Moment, began, ceased, finishIn, wasBegun, lastStart, largestEnded, virtualTime}
+use Rattle.promises_fair.specs.Packets.{Packet, Moment, began, ceased, finishIn, wasBegun, lastStart, largestEnded, virtualTime}
 use Rattle.promises_fair.specs.Promised.{Question, begunOf}
 use Rattle.promises_fair.proofs.Kept.{notBegun, asks, asked, Serves, Kept, InHand, Paced, waiting-all}
 
@@ -40,10 +41,10 @@ in-service v ps (ceased f n l p x w ∷ ms) b s h = absurd (true≢false (sym b 
 
 module _
     (u : Fair)
-    (os : List Opening)
+    (marks : List Mark)
     (ps : List Packet)
     (ms : List Moment)
-    (k : Kept u os ps ms)
+    (k : Kept u marks ps ms)
     (t : Paced ps ms)
     (busy : u .service .busy ≡ true)
     (position : ℕ) where
@@ -58,7 +59,7 @@ module _
   unfolding largest
   largest-told = omega (arith, later-max (u .ended) (u .service .finish), k .ended, this .finish)
 
-  pub kept-end : Kept (ended u .lane) os ps (ends (u .service) ps ms position ∷ ms)
+  pub kept-end : Kept (ended u .lane) marks ps (ends (u .service) ps ms position ∷ ms)
   unfolding virtualTime largestEnded wasBegun largest
   kept-end =
       record {
@@ -70,7 +71,7 @@ module _
         next = k .next;
         finishes = k .finishes;
         tied = k .tied;
-        time = rw (waiting-all u os ps ms k) (go (eqb (count (notBegun ms) ps) 0));
+        time = rw (waiting-all u marks ps ms k) (go (eqb (count (notBegun ms) ps) 0));
         ended = largest-told;
         service = refl;
       }

@@ -13,6 +13,7 @@ use Rattle.units.specs.Limits.{placeCount}
 use Rattle.places.specs.Members.{Some}
 use Rattle.places.specs.Places.{flowOf}
 use Rattle.places.specs.Choice.{comesBefore, at, Leads}
+use Rattle.places.specs.Marks.{Mark}
 use Rattle.places.proofs.CountAt.{at-none, at-here}
 use Rattle.places.proofs.Least.{leads}
 use Rattle.places.proofs.Members.{none-passes, some-passes, some-map, some-gives, some-both}
@@ -22,7 +23,7 @@ use Rattle.tags.specs.declared.Packet.{Packet as Place}
 use Rattle.tags.specs.Tags.{freePacket, isHeld}
 use Rattle.fair.specs.declared.Fair.{Fair}
 use Rattle.fair.specs.Lane.{keyOf, chosen}
-use Rattle.promises_fair.specs.Packets.{Opening, Packet, Moment, finishIn, wasBegun, virtualTime}
+use Rattle.promises_fair.specs.Packets.{Packet, Moment, finishIn, wasBegun, virtualTime}
 use Rattle.promises_fair.specs.Promised.{Question, holds, packetKey, begunOf}
 use Rattle.promises_fair.proofs.Numbers.{ofFlow, IsThis, Older, has-number, has-finish, has-tags, has-older}
 use Rattle.promises_fair.proofs.Kept.{notBegun, asks, asked, Kept, Paced, begun-below}
@@ -63,7 +64,7 @@ this-told place p a e =
       eqb-true (a .finish) (p .finish .0) (s .1),
     )
 
-module _ (u : Fair) (os : List Opening) (ps : List Packet) (ms : List Moment) (k : Kept u os ps ms) (place : ℕ) (p : Place) (e : chosen u ≡ at place p) where
+module _ (u : Fair) (marks : List Mark) (ps : List Packet) (ms : List Moment) (k : Kept u marks ps ms) (place : ℕ) (p : Place) (e : chosen u ≡ at place p) where
   -- the place is held, and leads
   pub lead : Leads isHeld keyOf freePacket (u .packets) (at place p)
   lead = rw e at (leads isHeld keyOf freePacket refl (u .packets))
@@ -101,7 +102,7 @@ module _ (u : Fair) (os : List Opening) (ps : List Packet) (ms : List Moment) (k
   there : Some (AtPlace place p) ps
   there = some-map (WaitsAt ms place p) (AtPlace place p) (λ a w. w .1) ps chosen-waits
 
-  unbegun : wasBegun ms (placeFlow place) (p .number) ≡ false
+  pub unbegun : wasBegun ms (placeFlow place) (p .number) ≡ false
   unbegun = some-gives (WaitsAt ms place p) _ (λ a x. rw (← x .1 .0, ← x .1 .1) (not-true _ (x .0))) ps chosen-waits
 
   module _ (t : Paced ps ms) where

@@ -1,26 +1,28 @@
 -- What every call keeps. The lane is what the calls and answers tell: flows, tags and times agree, the held places are the waiting
 -- packets, and the service is that of the newest moment. And of what they tell: numbers and tags rise, each flow's packets are begun
--- in the order of their numbers, and no waiting packet starts before virtual time. Here: an opening keeps it.
+-- in the order of their numbers, and no waiting packet starts before virtual time. Here: an opening and a closing keep it.
 use mathlib.Core.Path.{_≡_, refl, sym, ap, _∙_, subst}
-use mathlib.Core.Bool.{Bool, true, false, not, cond, _&&_, _||_}
+use mathlib.Core.Bool.{Bool, true, false, not, _&&_, _||_}
 use mathlib.Core.List.{List, [], _∷_}
 use Prim.Native.Nat.{ℕ, suc, _+_, _≤_, _<_}
 use native.Mathlib.Omega.{arith}
-use borrow.Author.Tests.{eqb-true, eqb-false, eq-eqb, ne-eqb, lt-ltb, le-ltb, ltb-true, ltb-false}
+use borrow.Author.Tests.{eqb-true, eqb-false, lt-ltb, le-ltb, ltb-true, ltb-false}
 use lib.Dec.{ltb, eqb}
-use lib.ListN.{length, getD, set, length-set}
+use lib.ListN.{length, length-set}
 use Rattle.units.specs.Limits.{tagLimit, badWeight}
 use Rattle.places.specs.Places.{bit, count, countAt}
+use Rattle.places.specs.Marks.{Mark, opens, closes, openIn, inForce}
 use Rattle.places.proofs.CountAt.{at-same, at-count, own-places}
-use Rattle.places.proofs.Stores.{set-cases}
+use Rattle.places.proofs.Marks.{force-opened, force-closed, Told, told-opened, told-closed}
+use Rattle.places.proofs.Stores.{set-keeps}
 use Rattle.places.proofs.Tests.{and-holds}
 use Rattle.tags.specs.declared.Flow.{Flow}
 use Rattle.tags.specs.Tags.{isHeld, shutFlow}
 use Rattle.fair.specs.declared.Service.{Service}
 use Rattle.fair.specs.declared.Fair.{Fair}
 use Rattle.fair.specs.Lane.{flowAt, waitingOf, waiting}
-use Rattle.fair.specs.Calls.{opened}
-use Rattle.promises_fair.specs.Packets.{Opening, Packet, Moment, began, ceased, openIn, weightIn, lastFinish, finishIn, wasBegun, largestEnded, virtualTime}
+use Rattle.fair.specs.Calls.{opened, closed}
+use Rattle.promises_fair.specs.Packets.{Packet, Moment, began, ceased, lastFinish, finishIn, wasBegun, serving, largestEnded, virtualTime}
 use Rattle.promises_fair.specs.Promised.{Question, holds, begunOf, InOrder, Numbered}
 use Rattle.promises_fair.proofs.Numbers.{ofFlow, Rising}
 
@@ -42,13 +44,19 @@ Serves v ps (began f n l s p ∷ ms) =
     (v .busy ≡ true) × (v .flow ≡ f) × (v .number ≡ n) × (v .length ≡ l) × (v .finish .0 ≡ finishIn ps f n)
 Serves v ps (ceased f n l p e w ∷ ms) = v .busy ≡ false
 
+-- so that it is busy with a flow's packet as the moments tell
+pub serving-told : (v : Service) (ps : List Packet) (ms : List Moment) → Serves v ps ms → (flow : ℕ) → (v .busy && eqb (v .flow) flow) ≡ serving ms flow
+serving-told v ps [] s flow = rw s
+serving-told v ps (began f n l x p ∷ ms) s flow = rw (s .0, s .1)
+serving-told v ps (ceased f n l p e w ∷ ms) s flow = rw s
+
 -- the lane is what the calls and answers tell
-pub record Kept (u : Fair) (os : List Opening) (ps : List Packet) (ms : List Moment) : Type 0 where
+pub record Kept (u : Fair) (marks : List Mark) (ps : List Packet) (ms : List Moment) : Type 0 where
   pub sixteen : length (u .flows) ≡ 16
   pub long : length (u .packets) ≡ 256
-  pub openFlows : (f : ℕ) → f < 16 → flowAt u f .opened ≡ openIn os f
-  pub weights : (f : ℕ) → f < 16 → flowAt u f .weight ≡ weightIn os f
-  pub fit : (f : ℕ) → openIn os f ≡ true → badWeight (weightIn os f) ≡ false
+  pub openFlows : (f : ℕ) → f < 16 → flowAt u f .opened ≡ openIn marks f
+  pub weights : (f : ℕ) → f < 16 → flowAt u f .weight ≡ inForce marks f
+  pub fit : (f : ℕ) → openIn marks f ≡ true → badWeight (inForce marks f) ≡ false
   pub next : (f : ℕ) → f < 16 → flowAt u f .next ≡ ofFlow f ps
   pub finishes : (f : ℕ) → f < 16 → flowAt u f .finish .0 ≡ lastFinish ps f
   pub tied : (ask : Question) → countAt (holds ask) 0 (u .packets) ≡ asked ps ms ask
@@ -91,7 +99,7 @@ begun-below (began g m l s p ∷ ms) o f n = go (eqb g f) refl (begun-below ms (
 begun-below (ceased g m l p e w ∷ ms) o f n = begun-below ms o f n
 
 -- the places that a flow holds are its waiting packets, and all places held are all that wait
-module _ (u : Fair) (os : List Opening) (ps : List Packet) (ms : List Moment) (k : Kept u os ps ms) where
+module _ (u : Fair) (marks : List Mark) (ps : List Packet) (ms : List Moment) (k : Kept u marks ps ms) where
   pub waiting-told : (flow : ℕ) → flow < 16 → waitingOf u flow ≡ asked ps ms (λ f n l s e. eqb f flow)
   waiting-told flow b = sym (own-places isHeld 16 flow (u .packets) (omega arith) (omega (arith, k .long))) ∙ k .tied (λ f n l s e. eqb f flow)
 
@@ -101,43 +109,55 @@ module _ (u : Fair) (os : List Opening) (ps : List Packet) (ms : List Moment) (k
       ∙ at-same (λ j x. isHeld x) (holds (λ f n l s e. true)) (λ j x. ap bit (sym (and-holds (x .held) true refl))) 0 (u .packets)
       ∙ k .tied (λ f n l s e. true)
 
-  -- ---- a flow is opened: its record has the weight, and its numbers and its last finish go on
-  module _ (flow weight : ℕ) (low : flow ≤ 15) (good : badWeight weight ≡ false) where
-    now-open : Flow
-    now-open = record { opened = true; weight = weight; next = flowAt u flow .next; finish = flowAt u flow .finish }
+  -- ---- a flow is opened, or closed: its record has the new mark, and its numbers and its last finish go on
+  module _ (flow : ℕ) (l : flow ≤ 15) where
+    low : flow < length (u .flows)
+    low = omega (arith, k .sixteen)
 
-    OpenAs : ℕ → Flow → Type 0
-    OpenAs f x =
-        (x .opened ≡ (eqb flow f || openIn os f))
-        × (x .weight ≡ cond (eqb flow f) weight (weightIn os f))
-        × (x .next ≡ ofFlow f ps)
-        × (x .finish .0 ≡ lastFinish ps f)
+    told : Told (λ (x : Flow). x .opened) (λ (x : Flow). x .weight) shutFlow 16 (u .flows) marks
+    told f b = (k .openFlows f b, k .weights f b)
 
-    open-flow : (f : ℕ) → f < 16 → OpenAs f (getD (set (u .flows) flow now-open) f shutFlow)
-    unfolding now-open OpenAs
-    open-flow f b =
-        set-cases (u .flows) flow now-open shutFlow (omega (arith, k .sixteen)) f (OpenAs f)
-        (λ e. rw (eq-eqb flow f (sym e), e) (refl, refl, k .next flow (omega arith), k .finishes flow (omega arith)))
-        (λ n. rw (ne-eqb flow f (λ q. n (sym q))) (k .openFlows f b, k .weights f b, k .next f b, k .finishes f b))
+    module _ (weight : ℕ) (good : badWeight weight ≡ false) where
+      now-open : Flow
+      now-open = record { opened = true; weight = weight; next = flowAt u flow .next; finish = flowAt u flow .finish }
 
-    pub kept-open : Kept (opened u flow weight .lane) (record { flow = flow; weight = weight } ∷ os) ps ms
-    unfolding openIn weightIn now-open OpenAs
-    kept-open =
+      pub kept-open : Kept (opened u flow weight .lane) (opens flow weight ∷ marks) ps ms
+      unfolding now-open
+      kept-open =
+          let t = told-opened (λ (x : Flow). x .opened) (λ (x : Flow). x .weight) shutFlow 16 (u .flows) marks told flow now-open low refl in
+          record {
+            sixteen = length-set (u .flows) flow now-open ∙ k .sixteen;
+            long = k .long;
+            openFlows = λ f b. t f b .0;
+            weights = λ f b. t f b .1;
+            fit = force-opened (λ n. badWeight n ≡ false) marks (k .fit) flow weight good;
+            next = λ f b. set-keeps (u .flows) flow now-open shutFlow low (λ (x : Flow). x .next) refl f ∙ k .next f b;
+            finishes = λ f b. set-keeps (u .flows) flow now-open shutFlow low (λ (x : Flow). x .finish .0) refl f ∙ k .finishes f b;
+            tied = k .tied;
+            time = k .time;
+            ended = k .ended;
+            service = k .service;
+          }
+
+    now-closed : Flow
+    now-closed = record { opened = false; weight = flowAt u flow .weight; next = flowAt u flow .next; finish = flowAt u flow .finish }
+
+    pub kept-close : Kept (closed u flow .lane) (closes flow ∷ marks) ps ms
+    unfolding now-closed
+    kept-close =
+        let t =
+        told-closed (λ (x : Flow). x .opened) (λ (x : Flow). x .weight) shutFlow 16 (u .flows) marks told flow now-closed low refl
+        (k .weights flow (omega arith)) in
         record {
-          sixteen = length-set (u .flows) flow now-open ∙ k .sixteen;
+          sixteen = length-set (u .flows) flow now-closed ∙ k .sixteen;
           long = k .long;
-          openFlows = λ f b. open-flow f b .0;
-          weights = λ f b. open-flow f b .1;
-          fit = λ f. fit f (eqb flow f) (k .fit f);
-          next = λ f b. open-flow f b .2;
-          finishes = λ f b. open-flow f b .3;
+          openFlows = λ f b. t f b .0;
+          weights = λ f b. t f b .1;
+          fit = force-closed (λ n. badWeight n ≡ false) marks (k .fit) flow;
+          next = λ f b. set-keeps (u .flows) flow now-closed shutFlow low (λ (x : Flow). x .next) refl f ∙ k .next f b;
+          finishes = λ f b. set-keeps (u .flows) flow now-closed shutFlow low (λ (x : Flow). x .finish .0) refl f ∙ k .finishes f b;
           tied = k .tied;
           time = k .time;
           ended = k .ended;
           service = k .service;
         }
-      where
-        fit : (f : ℕ) (t : Bool) → (openIn os f ≡ true → badWeight (weightIn os f) ≡ false)
-            → (t || openIn os f) ≡ true → badWeight (cond t weight (weightIn os f)) ≡ false
-        fit f true r o = good
-        fit f false r o = r o

@@ -4,5 +4,6 @@ pub mod Offered
 pub mod Chosen
 pub mod Began
 pub mod Ceased
+pub mod Terms
 pub mod Good
 pub mod Account

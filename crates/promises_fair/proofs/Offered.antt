@@ -14,6 +14,7 @@ use Rattle.units.specs.Charges.{chargeOf}
 use Rattle.units.proofs.Limits.{inside}
 use Rattle.units.proofs.Charges.{charge-least}
 use Rattle.places.specs.Places.{bit, count, countAt, placesOf, firstFree}
+use Rattle.places.specs.Marks.{Mark, openIn, inForce}
 use Rattle.places.proofs.Tests.{and-holds}
 use Rattle.places.proofs.Stores.{set-cases, at-more, free-low, free-flow, free-unheld}
 use Rattle.tags.specs.declared.Flow.{Flow}
@@ -24,30 +25,30 @@ use Rattle.fair.specs.declared.Service.{Service}
 use Rattle.fair.specs.declared.Fair.{Fair}
 use Rattle.fair.specs.Lane.{flowAt, waitingOf, startOf, finishTag}
 use Rattle.fair.specs.Calls.{accepted}
-use Rattle.promises_fair.specs.Packets.{Opening, Packet, Moment, began, ceased, openIn, weightIn, lastFinish, virtualTime}
+use Rattle.promises_fair.specs.Packets.{Packet, Moment, began, ceased, lastFinish, virtualTime}
 use Rattle.promises_fair.specs.Promised.{Question, holds, begunOf, Numbered}
 use Rattle.promises_fair.proofs.Numbers.{ofFlow, finish-stays}
 use Rattle.promises_fair.proofs.Kept.{notBegun, asks, Serves, Kept, InHand, Paced, begun-below}
 
 -- what a packet's tags are
-module _ (u : Fair) (os : List Opening) (ps : List Packet) (ms : List Moment) (k : Kept u os ps ms) (flow : ℕ) (low : flow ≤ 15) where
+module _ (u : Fair) (marks : List Mark) (ps : List Packet) (ms : List Moment) (k : Kept u marks ps ms) (flow : ℕ) (low : flow ≤ 15) where
   pub start-told : startOf u flow .0 ≡ max (virtualTime ms) (lastFinish ps flow)
   start-told = later-max (u .time) (flowAt u flow .finish) ∙ rw (k .time, k .finishes flow (omega arith))
 
   pub finish-told : (bytes : ℕ)
-      → finishAt (startOf u flow) bytes (flowAt u flow .weight) ≡ max (virtualTime ms) (lastFinish ps flow) + bytes * chargeOf (weightIn os flow)
+      → finishAt (startOf u flow) bytes (flowAt u flow .weight) ≡ max (virtualTime ms) (lastFinish ps flow) + bytes * chargeOf (inForce marks flow)
   finish-told bytes = rw (start-told, k .weights flow (omega arith))
 
 -- the packet as the history has it
-abbrev pub offered : Fair → List Opening → ℕ → ℕ → Packet
-offered u os flow bytes =
+abbrev pub offered : Fair → List Mark → ℕ → ℕ → Packet
+offered u marks flow bytes =
     record {
       flow = flow;
       number = flowAt u flow .next;
       start = startOf u flow .0;
       finish = finishAt (startOf u flow) bytes (flowAt u flow .weight);
       length = bytes;
-      charge = chargeOf (weightIn os flow);
+      charge = chargeOf (inForce marks flow);
     }
 
 -- a packet with the flow's next number leaves the packet in service as it is
@@ -65,10 +66,10 @@ module _ (a : Packet) (ps : List Packet) (k : Numbered (a ∷ ps)) where
 
 module _
     (u : Fair)
-    (os : List Opening)
+    (marks : List Mark)
     (ps : List Packet)
     (ms : List Moment)
-    (k : Kept u os ps ms)
+    (k : Kept u marks ps ms)
     (t : Paced ps ms)
     (flow bytes : ℕ)
     (low : flow ≤ 15)
@@ -78,18 +79,18 @@ module _
     (few : flowAt u flow .next ≤ tagLimit) where
   -- the packet has the flow's next number, and its flow is open
   new : Packet
-  new = offered u os flow bytes
+  new = offered u marks flow bytes
 
   numbered : Numbered (new ∷ ps)
   unfolding new
   numbered = (k .next flow (omega arith), t .numbered)
 
-  is-open : openIn os flow ≡ true
+  is-open : openIn marks flow ≡ true
   is-open = sym (k .openFlows flow (omega arith)) ∙ o
 
   -- a packet costs something
-  cost : 1 ≤ bytes * chargeOf (weightIn os flow)
-  cost = mul-le-mul (inside bytes 1500 good .0) (charge-least (weightIn os flow) (k .fit flow is-open))
+  cost : 1 ≤ bytes * chargeOf (inForce marks flow)
+  cost = mul-le-mul (inside bytes 1500 good .0) (charge-least (inForce marks flow) (k .fit flow is-open))
 
   -- the number is new, so it is not begun
   new-waits : notBegun ms new ≡ true
@@ -98,14 +99,14 @@ module _
       let l : begunOf ms flow ≤ flowAt u flow .next = omega (arith, k .next flow (omega arith), t .begun flow) in
       rw (begun-below ms (t .inOrder) flow (flowAt u flow .next), le-ltb (flowAt u flow .next) (begunOf ms flow) l)
 
-  pub paced-offer : Paced (offered u os flow bytes ∷ ps) ms
+  pub paced-offer : Paced (offered u marks flow bytes ∷ ps) ms
   unfolding new count
   paced-offer =
-      let start = start-told u os ps ms k flow low in
+      let start = start-told u marks ps ms k flow low in
       record {
         few = λ f. go f (eqb flow f) refl;
         numbered = numbered;
-        rising = (omega (arith, start), omega (arith, start, finish-told u os ps ms k flow low bytes, cost), t .rising);
+        rising = (omega (arith, start), omega (arith, start, finish-told u marks ps ms k flow low bytes, cost), t .rising);
         inOrder = t .inOrder;
         begun = λ f. omega (arith, t .begun f);
         inHand = hand-more new ps numbered ms (t .inHand);
@@ -142,8 +143,8 @@ module _
 
   AfterAs : ℕ → Flow → Type 0
   AfterAs f x =
-      (x .opened ≡ openIn os f)
-      × (x .weight ≡ weightIn os f)
+      (x .opened ≡ openIn marks f)
+      × (x .weight ≡ inForce marks f)
       × (x .next ≡ bit (eqb flow f) + ofFlow f ps)
       × (x .finish .0 ≡ cond (eqb flow f) (new .finish) (lastFinish ps f))
 
@@ -154,7 +155,7 @@ module _
       (λ e. rw (eq-eqb flow f (sym e), e) (sym is-open, k .weights flow (omega arith), omega (arith, k .next flow (omega arith)), refl))
       (λ n. rw (ne-eqb flow f (λ q. n (sym q))) (k .openFlows f b, k .weights f b, omega (arith, k .next f b), k .finishes f b))
 
-  pub kept-offer : Kept (accepted u flow bytes .lane) os (offered u os flow bytes ∷ ps) ms
+  pub kept-offer : Kept (accepted u flow bytes .lane) marks (offered u marks flow bytes ∷ ps) ms
   unfolding count lastFinish new after AfterAs place taken
   kept-offer =
       record {

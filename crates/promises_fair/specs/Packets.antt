@@ -4,11 +4,7 @@ use mathlib.Core.List.{List, [], _∷_}
 use Prim.Native.Nat.{ℕ, max}
 use lib.Dec.{eqb}
 use Rattle.places.specs.Places.{count}
-
--- an opening that was answered ok
-pub record Opening : Type 0 where
-  pub flow : ℕ
-  pub weight : ℕ
+use Rattle.places.specs.Marks.{Mark, inForce}
 
 -- an accepted packet: its flow, its number, start and finish tags as answered, its length, and the charge of the weight then in force
 pub record Packet : Type 0 where
@@ -29,23 +25,18 @@ pub data Moment : Type 0 where
 pub record Packets : Type 0 where
   -- how many calls there were
   pub calls : ℕ
-  pub openings : List Opening
+  -- the openings and closings that were answered ok
+  pub marks : List Mark
   pub accepted : List Packet
   pub moments : List Moment
 
 -- before any call
 abbrev pub noPackets : Packets
-noPackets = record { calls = 0; openings = []; accepted = []; moments = [] }
+noPackets = record { calls = 0; marks = []; accepted = []; moments = [] }
 
--- the weight in force: that of the newest opening of the flow
-unfoldable pub weightIn : List Opening → ℕ → ℕ
-weightIn [] flow = 0
-weightIn (o ∷ os) flow = cond (eqb (o .flow) flow) (o .weight) (weightIn os flow)
-
--- an opening of the flow was answered ok
-unfoldable pub openIn : List Opening → ℕ → Bool
-openIn [] flow = false
-openIn (o ∷ os) flow = eqb (o .flow) flow || openIn os flow
+-- the weight in force: that of the flow's newest opening
+abbrev pub weightIn : Packets → ℕ → ℕ
+weightIn h flow = inForce (h .marks) flow
 
 -- the finish tag of the flow's last accepted packet, 0 at first
 unfoldable pub lastFinish : List Packet → ℕ → ℕ
@@ -76,6 +67,18 @@ abbrev pub inService : List Moment → Bool
 inService [] = false
 inService (began f n l s p ∷ ms) = true
 inService (ceased f n l p e w ∷ ms) = false
+
+-- it is a packet of this flow
+abbrev pub serving : List Moment → ℕ → Bool
+serving [] flow = false
+serving (began f n l s p ∷ ms) flow = eqb f flow
+serving (ceased f n l p e w ∷ ms) flow = false
+
+-- it is this packet
+abbrev pub isServed : List Moment → Packet → Bool
+isServed [] a = false
+isServed (began f n l s p ∷ ms) a = eqb f (a .flow) && eqb n (a .number)
+isServed (ceased f n l p e w ∷ ms) a = false
 
 -- the start tag of the packet last begun, 0 before any
 unfoldable pub lastStart : List Moment → ℕ

@@ -1,21 +1,22 @@
 -- The promises of the fair lane, each as a statement about a lane and what the calls and answers so far tell of its packets.
 use mathlib.Core.Path.{_≡_}
-use mathlib.Core.Bool.{Bool, true, false, _&&_}
+use mathlib.Core.Bool.{Bool, true, false, _&&_, _||_}
 use mathlib.Core.List.{List, [], _∷_}
 use Prim.Native.Nat.{ℕ, suc, _+_, _*_, _≤_, _<_, max}
 use lib.Dec.{eqb}
 use Rattle.units.specs.Limits.{placeCount, tagLimit}
 use Rattle.units.specs.Charges.{chargeOf}
 use Rattle.places.specs.Members.{Each, Some}
+use Rattle.places.specs.Marks.{openIn}
 use Rattle.places.specs.Places.{bit, count, countAt, flowOf}
 use Rattle.places.specs.Choice.{Key, comesBefore}
 use Rattle.tags.specs.declared.Packet.{Packet as Place}
 use Rattle.fair.specs.declared.Fair.{Fair}
 use Rattle.fair.specs.declared.Answer.{Answer}
-use Rattle.fair.specs.declared.Answer.the-variants.{Refused, Opened, Accepted, Begun, Ended}
+use Rattle.fair.specs.declared.Answer.the-variants.{Refused, Opened, Closed, Accepted, Begun, Ended}
 use Rattle.fair.specs.Lane.{flowAt}
 use Rattle.fair.specs.Calls.{offerOf, beginOf, endOf}
-use Rattle.promises_fair.specs.Packets.{Packet, Moment, began, ceased, Packets, weightIn, lastFinish, waits, virtualTime}
+use Rattle.promises_fair.specs.Packets.{Packet, Moment, began, ceased, Packets, weightIn, lastFinish, waits, isServed, virtualTime}
 use Rattle.promises_fair.specs.Notes.{noteService}
 
 -- how many packets of a flow were accepted
@@ -28,7 +29,7 @@ startIn h flow = max (virtualTime (h .moments)) (lastFinish (h .accepted) flow)
 
 -- and its finish tag is that and its length times the charge in force
 abbrev pub finishTag : Packets → ℕ → ℕ → ℕ
-finishTag h flow length = startIn h flow + length * chargeOf (weightIn (h .openings) flow)
+finishTag h flow length = startIn h flow + length * chargeOf (weightIn h flow)
 
 -- F1: the state's virtual time is the published one, and a packet that is accepted is answered the published tags.
 abbrev pub Tagged : Packets → ℕ → ℕ → Answer → Type 0
@@ -36,6 +37,7 @@ Tagged h flow length (Accepted number start finish) =
     (number ≡ acceptedOf h flow) × (start .0 ≡ startIn h flow) × (finish .0 ≡ finishTag h flow length)
 Tagged h flow length (Refused r) = Unit {0}
 Tagged h flow length Opened = ⊥
+Tagged h flow length Closed = ⊥
 Tagged h flow length (Begun f n l s) = ⊥
 Tagged h flow length (Ended f n l) = ⊥
 
@@ -69,6 +71,7 @@ First h (Begun flow number length start) =
     (h .accepted)
 First h (Refused r) = Unit {0}
 First h Opened = ⊥
+First h Closed = ⊥
 First h (Accepted n s f) = ⊥
 First h (Ended f n l) = ⊥
 
@@ -101,6 +104,7 @@ LastBegun (ceased f n l p e w ∷ ms) (Ended flow number length) = ⊥
 LastBegun [] (Ended flow number length) = ⊥
 LastBegun ms (Refused r) = Unit {0}
 LastBegun ms Opened = ⊥
+LastBegun ms Closed = ⊥
 LastBegun ms (Accepted n s f) = ⊥
 LastBegun ms (Begun f n l s) = ⊥
 
@@ -119,3 +123,12 @@ pub record EndsAndNumbers (u : Fair) (h : Packets) : Type 0 where
 pub record NeverFalls (u : Fair) (h : Packets) : Type 0 where
   pub begins : virtualTime (h .moments) ≤ virtualTime (noteService h (beginOf u .answer) .moments)
   pub ends : virtualTime (h .moments) ≤ virtualTime (noteService h (endOf u .answer) .moments)
+
+-- F5: a packet that waits or is in service is of an open flow, and its charge is that of the weight still in force.
+abbrev pub TermsStand : Packets → Type 0
+TermsStand h =
+    Each
+    (λ (a : Packet).
+    (waits h a || isServed (h .moments) a) ≡ true
+    → (openIn (h .marks) (a .flow) ≡ true) × (a .charge ≡ chargeOf (weightIn h (a .flow))))
+    (h .accepted)

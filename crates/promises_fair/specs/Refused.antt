@@ -6,27 +6,35 @@ use Prim.Native.Nat.{ℕ}
 use lib.Dec.{leb, ltb, eqb}
 use Rattle.units.specs.Limits.{placeCount, tagLimit, noSuchFlow, badWeight, badLength}
 use Rattle.units.specs.Refusals.{Ground, firstOf}
-use Rattle.units.specs.declared.Refusal.the-variants.{NoSuchFlow, NotOpen, AlreadyOpen, BeyondLimit, PlacesFull, TagsUsedUp, PacketInService, NothingWaits, NothingInService}
+use Rattle.units.specs.declared.Refusal.the-variants.{NoSuchFlow, NotOpen, AlreadyOpen, BeyondLimit, PlacesFull, TagsUsedUp, PacketInService, NothingWaits, NothingInService, FlowInUse}
 use Rattle.places.specs.Places.{count}
+use Rattle.places.specs.Marks.{openIn}
 use Rattle.fair.specs.declared.Fair.{Fair}
 use Rattle.fair.specs.Answers.{refusalIn}
-use Rattle.fair.specs.Calls.{openOf, offerOf, beginOf, endOf}
-use Rattle.promises_fair.specs.Packets.{Packet, Packets, openIn, waits, waitingAll, inService}
+use Rattle.fair.specs.Calls.{openOf, closeOf, offerOf, beginOf, endOf}
+use Rattle.promises_fair.specs.Packets.{Packet, Packets, waits, waitingAll, inService, serving}
 use Rattle.promises_fair.specs.Promised.{acceptedOf, finishTag}
 
 -- how many packets of a flow wait
 abbrev pub waitingIn : Packets → ℕ → ℕ
 waitingIn h flow = count (λ (a : Packet). eqb (a .flow) flow && waits h a) (h .accepted)
 
--- open: an opening of the flow was answered ok; waiting: accepted and not begun; in service: a begin answered and no end since
+-- open: opened and not closed since; waiting: accepted and not begun; in service: a begin answered and no end since
 abbrev pub openingTold : Packets → ℕ → ℕ → List Ground
 openingTold h flow weight =
-    (NoSuchFlow, noSuchFlow flow) ∷ (AlreadyOpen, openIn (h .openings) flow) ∷ (BeyondLimit, badWeight weight) ∷ []
+    (NoSuchFlow, noSuchFlow flow) ∷ (AlreadyOpen, openIn (h .marks) flow) ∷ (BeyondLimit, badWeight weight) ∷ []
+
+abbrev pub closingTold : Packets → ℕ → List Ground
+closingTold h flow =
+    (NoSuchFlow, noSuchFlow flow)
+    ∷ (NotOpen, not (openIn (h .marks) flow))
+    ∷ (FlowInUse, ltb 0 (waitingIn h flow) || serving (h .moments) flow)
+    ∷ []
 
 abbrev pub offeringTold : Packets → ℕ → ℕ → List Ground
 offeringTold h flow length =
     (NoSuchFlow, noSuchFlow flow)
-    ∷ (NotOpen, not (openIn (h .openings) flow))
+    ∷ (NotOpen, not (openIn (h .marks) flow))
     ∷ (BeyondLimit, badLength length)
     ∷ (PlacesFull, leb placeCount (waitingIn h flow))
     ∷ (TagsUsedUp, ltb tagLimit (finishTag h flow length) || ltb tagLimit (acceptedOf h flow))
@@ -41,6 +49,7 @@ endTold h = (NothingInService, not (inService (h .moments))) ∷ []
 -- S4: each call is refused exactly as the calls and answers so far tell.
 pub record RefusedAsTold (u : Fair) (h : Packets) : Type 0 where
   pub opening : (flow weight : ℕ) → refusalIn (openOf u flow weight .answer) ≡ firstOf (openingTold h flow weight)
+  pub closing : (flow : ℕ) → refusalIn (closeOf u flow .answer) ≡ firstOf (closingTold h flow)
   pub offering : (flow length : ℕ) → refusalIn (offerOf u flow length .answer) ≡ firstOf (offeringTold h flow length)
   pub beginning : refusalIn (beginOf u .answer) ≡ firstOf (beginTold h)
   pub ending : refusalIn (endOf u .answer) ≡ firstOf (endTold h)

@@ -65,6 +65,9 @@ pub refused-as-told : (u : Urgent) (h : Cells) → Kept u h → RefusedAsTold u 
 refused-as-told u h k =
     record {
       opening = λ flow deadline. refused-first u .opening flow deadline ∙ after-flow flow _ _ (λ l. rw (k .openFlows flow (omega arith)));
+      closing = λ flow.
+          refused-first u .closing flow
+          ∙ after-flow flow _ _ (λ l. rw (k .openFlows flow (omega arith), waiting-told u h k flow (omega arith)));
       offering = λ flow.
           refused-first u .offering flow
           ∙ after-flow flow _ _ (λ l. rw (k .openFlows flow (omega arith), waiting-told u h k flow (omega arith), k .time, k .deadlines flow (omega arith)));

@@ -1,5 +1,5 @@
 -- All that the calls keep, in one record, and that each call of the urgent lane keeps it.
-use mathlib.Core.Path.{_≡_, refl, ap}
+use mathlib.Core.Path.{_≡_, refl, sym, ap, _∙_}
 use mathlib.Core.Bool.{Bool, true, false, _&&_, false≢true}
 use mathlib.Core.List.{List, _∷_}
 use Prim.Native.Nat.{ℕ, _+_, _<_, zero-le}
@@ -8,22 +8,25 @@ use lib.Dec.{leb, ltb}
 use lib.ListN.{set, getD-replicate}
 use Rattle.units.specs.Limits.{slotLimit}
 use Rattle.places.specs.Places.{count}
+use Rattle.places.specs.Marks.{Mark, opens, closes, openIn, inForce}
 use Rattle.places.specs.Choice.{Choice, nothing, at, leastHeld, Leads}
 use Rattle.places.proofs.CountAt.{at-replicate}
 use Rattle.urgent.specs.declared.Cell.{Cell as Place}
 use Rattle.urgent.specs.declared.Flow.{Flow}
 use Rattle.urgent.specs.declared.Urgent.{Urgent}
 use Rattle.urgent.specs.Lane.{freeCell, isHeld, shutFlow, freshLane, keyOf, lastIs}
-use Rattle.urgent.specs.Calls.{opened, openOf, accepted, offerOf, chosen, turned, turnOf}
-use Rattle.urgent.proofs.Cases.{open-cases, offer-cases, turn-cases}
+use Rattle.urgent.specs.Calls.{opened, openOf, closed, closeOf, offerOf, chosen, turned, turnOf}
+use Rattle.urgent.proofs.Cases.{open-cases, close-cases, offer-cases, turn-cases}
 use Rattle.urgent.proofs.Laws.{sends-first}
-use Rattle.promises_urgent.specs.Cells.{Cell, Cells, noCells, openIn, deadlineIn, waits, isMissed, noteOpening, noteOffer, noteTurn}
-use Rattle.promises_urgent.specs.Promised.{holds}
-use Rattle.promises_urgent.proofs.Kept.{Kept, Few, kept-open, kept-offer, few-offer, offeredCell, offer-waits, offer-window}
+use Rattle.promises_urgent.specs.Cells.{Cell, Cells, noCells, waits, isMissed}
+use Rattle.promises_urgent.specs.Notes.{marked, noteOpening, noteClosing, noteOffer, noteTurn}
+use Rattle.promises_urgent.specs.Promised.{holds, TermsStand}
+use Rattle.promises_urgent.proofs.Kept.{Kept, Few, waiting-told, kept-open, kept-close, kept-offer, few-offer, offeredCell, offer-waits, offer-window}
 use Rattle.promises_urgent.proofs.Turned.{without, goneFrom, sentCells, endLane, endCells, kept-sent, kept-end, few-turn, waits-less, this-waits}
 use Rattle.promises_urgent.proofs.Missed.{waiting-not-missed, missed-end, missed-sent}
 use Rattle.promises_urgent.proofs.Account.{none-wait, none-before}
-use Rattle.promises_urgent.proofs.Steps.{none-earlier}
+use Rattle.promises_urgent.proofs.Steps.{none-earlier, sent-before}
+use Rattle.promises_urgent.proofs.Terms.{terms-opened, terms-closed, terms-offer, terms-later}
 use Rattle.promises_urgent.proofs.Reason.{Reasons, reasons-none, reasons-offer, reasons-lost, reasons-idle, reasons-sent}
 use Rattle.promises_urgent.proofs.Own.{Sends, sends-none, sends-offer, sends-lost, sends-idle, sends-sent}
 use Rattle.promises_urgent.proofs.Optimal.{Best, best-none, best-offer, best-lost, best-idle, best-sent}
@@ -35,9 +38,10 @@ pub record Good (u : Urgent) (h : Cells) : Type 0 where
   pub best : Best h
   pub reasons : Reasons h
   pub sends : Sends h
+  pub terms : TermsStand h
 
 pub good-fresh : Good freshLane noCells
-unfolding count openIn deadlineIn
+unfolding count openIn inForce
 good-fresh =
     record {
       kept =
@@ -59,13 +63,36 @@ good-fresh =
       best = best-none;
       reasons = reasons-none;
       sends = sends-none;
+      terms = tt;
     }
 
 module _ (u : Urgent) (h : Cells) (g : Good u h) where
+  -- a flow is opened or closed: the cells, the slots and the sendings are as they were
+  good-marked : (after : Urgent) (mark : Mark) → Kept after (marked h mark) → TermsStand (marked h mark) → Good after (marked h mark)
+  good-marked after mark kept terms =
+      record {
+        kept = kept;
+        few = g .few;
+        missed = g .missed;
+        best = record { past = g .best .past; most = g .best .most };
+        reasons = g .reasons;
+        sends = g .sends;
+        terms = terms;
+      }
+
   pub good-open : (flow deadline : ℕ) → Good (openOf u flow deadline .lane) (noteOpening h flow deadline (openOf u flow deadline .answer))
   good-open flow deadline =
       open-cases u (λ d. Good (d .lane) (noteOpening h flow deadline (d .answer))) (λ r. g) flow deadline
-      (λ l d. record { kept = kept-open u h (g .kept) flow deadline l d; few = g .few; missed = g .missed; best = record { past = g .best .past; most = g .best .most }; reasons = g .reasons; sends = g .sends })
+      (λ l o d.
+      good-marked (opened u flow deadline .lane) (opens flow deadline) (kept-open u h (g .kept) flow l deadline d)
+      (terms-opened h (g .terms) flow deadline (sym (g .kept .openFlows flow (omega arith)) ∙ o)))
+
+  pub good-close : (flow : ℕ) → Good (closeOf u flow .lane) (noteClosing h flow (closeOf u flow .answer))
+  good-close flow =
+      close-cases u (λ d. Good (d .lane) (noteClosing h flow (d .answer))) (λ r. g) flow
+      (λ l w.
+      good-marked (closed u flow .lane) (closes flow) (kept-close u h (g .kept) flow l)
+      (terms-closed h (g .terms) flow (omega (arith, sym (waiting-told u h (g .kept) flow (omega arith))))))
 
   pub good-offer : (flow : ℕ) → Good (offerOf u flow .lane) (noteOffer h flow (offerOf u flow .answer))
   unfolding count
@@ -82,6 +109,7 @@ module _ (u : Urgent) (h : Cells) (g : Good u h) where
             reasons-offer h (g .reasons) (offeredCell u h flow) refl (offer-window u h (g .kept) (g .few) flow l o room)
             (offer-waits u h (g .kept) (g .few) flow l o room);
         sends = sends-offer h (g .sends) (offeredCell u h flow) refl (offer-waits u h (g .kept) (g .few) flow l o room);
+        terms = terms-offer h (g .terms) (offeredCell u h flow) (sym (g .kept .openFlows flow (omega arith)) ∙ o) refl;
       })
 
   -- a turn that sends nothing
@@ -97,6 +125,7 @@ module _ (u : Urgent) (h : Cells) (g : Good u h) where
         best = best;
         reasons = reasons;
         sends = sends;
+        terms = terms-later h (g .terms) (endCells h usable missed) (omega arith) (λ f n e. e);
       }
 
   -- a turn that sends the cell at a place
@@ -129,6 +158,8 @@ module _ (u : Urgent) (h : Cells) (g : Good u h) where
           best = best-sent h (g .best) missed (goneFrom h place c) (c .last .0) first (λ t. less (λ f n l. leb t l));
           reasons = reasons-sent h (g .reasons) (g .kept .numbered) place c less first;
           sends = sends-sent h (g .sends) place c less (this-waits u h (g .kept) place c (lead .0) (lead .1) (lead .2));
+          terms =
+              terms-later h (g .terms) (endCells (sentCells h place c) (h .slot ∷ h .usable) missed) (omega arith) (sent-before (goneFrom h place c) (h .sent));
         }
 
   good-turned : u .now .0 < slotLimit → (usable : Bool) → Good (turned u (chosen u usable) .lane) (noteTurn h usable (turned u (chosen u usable) .answer))

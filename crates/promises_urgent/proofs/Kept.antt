@@ -1,5 +1,5 @@
 -- What every call keeps: the lane is what the calls and answers tell. Time, flows and numbers agree; the held places are the
--- waiting cells; and the cells sent are accepted cells. Here: an opening and an accepted offer keep it.
+-- waiting cells; and the cells sent are accepted cells. Here: an opening, a closing and an accepted offer keep it.
 use mathlib.Core.Path.{_≡_, refl, sym, ap, _∙_}
 use mathlib.Core.Bool.{Bool, true, false, cond, _&&_, _||_, true≢false}
 use mathlib.Core.List.{List, [], _∷_}
@@ -11,17 +11,20 @@ use lib.ListN.{length, getD, set, length-set}
 use Rattle.units.specs.Limits.{placeCount, slotLimit, badDeadline}
 use Rattle.units.proofs.Limits.{inside}
 use Rattle.places.specs.Places.{bit, count, countAt, firstFree, placesOf}
+use Rattle.places.specs.Marks.{opens, closes, openIn, inForce}
 use Rattle.places.proofs.Count.{count-le, count-le-length, and-le}
 use Rattle.places.proofs.CountAt.{own-places}
 use Rattle.places.proofs.Free.{part-length}
 use Rattle.places.proofs.Tests.{and-holds}
-use Rattle.places.proofs.Stores.{set-cases, at-more, free-low, free-flow, free-unheld}
+use Rattle.places.proofs.Marks.{force-opened, force-closed, Told, told-opened, told-closed}
+use Rattle.places.proofs.Stores.{set-cases, set-keeps, at-more, free-low, free-flow, free-unheld}
 use Rattle.urgent.specs.declared.Cell.{Cell as Place}
 use Rattle.urgent.specs.declared.Flow.{Flow}
 use Rattle.urgent.specs.declared.Urgent.{Urgent}
 use Rattle.urgent.specs.Lane.{freeCell, isHeld, shutFlow, flowAt, waitingOf}
-use Rattle.urgent.specs.Calls.{opened, accepted, lastSlot}
-use Rattle.promises_urgent.specs.Cells.{Cell, Gone, Cells, openIn, deadlineIn, wasSent, waits, noteOpening, noteOffer}
+use Rattle.urgent.specs.Calls.{opened, closed, accepted, lastSlot}
+use Rattle.promises_urgent.specs.Cells.{Cell, Gone, Cells, deadlineIn, wasSent, waits}
+use Rattle.promises_urgent.specs.Notes.{marked, noteOffer}
 use Rattle.promises_urgent.specs.Promised.{Question, holds, acceptedOf, waitingIn, Numbered}
 use Rattle.promises_urgent.proofs.Numbers.{isCell, none-above}
 
@@ -30,9 +33,9 @@ pub record Kept (u : Urgent) (h : Cells) : Type 0 where
   pub long : length (u .cells) ≡ 256
   pub time : u .now .0 ≡ h .slot
   pub within : h .slot ≤ slotLimit
-  pub openFlows : (f : ℕ) → f < 16 → flowAt u f .opened ≡ openIn (h .openings) f
-  pub deadlines : (f : ℕ) → f < 16 → flowAt u f .deadline ≡ deadlineIn (h .openings) f
-  pub live : (f : ℕ) → openIn (h .openings) f ≡ true → 1 ≤ deadlineIn (h .openings) f
+  pub openFlows : (f : ℕ) → f < 16 → flowAt u f .opened ≡ openIn (h .marks) f
+  pub deadlines : (f : ℕ) → f < 16 → flowAt u f .deadline ≡ deadlineIn h f
+  pub live : (f : ℕ) → openIn (h .marks) f ≡ true → 1 ≤ deadlineIn h f
   pub next : (f : ℕ) → f < 16 → flowAt u f .next ≡ acceptedOf h f
   pub numbered : Numbered (h .accepted)
   pub tied : (ask : Question) → countAt (holds ask) 0 (u .cells) ≡ count (λ (a : Cell). ask (a .flow) (a .number) (a .last) && waits h a) (h .accepted)
@@ -57,49 +60,64 @@ waiting-most u h k flow l =
       part-length isHeld freeCell (u .cells) (flow * 16) 16 (omega (arith, k .long)),
     )
 
--- ---- a flow is opened
-module _ (u : Urgent) (h : Cells) (k : Kept u h) (flow deadline : ℕ) (l : flow ≤ 15) (d : badDeadline deadline ≡ false) where
-  now-open : Flow
-  now-open = record { opened = true; deadline = deadline; next = flowAt u flow .next }
+-- ---- a flow is opened, or closed: its record has the new mark, and its numbers go on
+module _ (u : Urgent) (h : Cells) (k : Kept u h) (flow : ℕ) (l : flow ≤ 15) where
+  low : flow < length (u .flows)
+  low = omega (arith, k .sixteen)
 
-  open-flow : (f : ℕ) → f < 16
-      → (getD (set (u .flows) flow now-open) f shutFlow .opened ≡ (eqb flow f || openIn (h .openings) f))
-      × (getD (set (u .flows) flow now-open) f shutFlow .deadline ≡ cond (eqb flow f) deadline (deadlineIn (h .openings) f))
-      × (getD (set (u .flows) flow now-open) f shutFlow .next ≡ flowAt u f .next)
-  unfolding now-open
-  open-flow f b =
-      set-cases (u .flows) flow now-open shutFlow (omega (arith, k .sixteen)) f
-      (λ x. (x .opened ≡ (eqb flow f || openIn (h .openings) f)) × (x .deadline ≡ cond (eqb flow f) deadline (deadlineIn (h .openings) f)) × (x .next ≡ flowAt u f .next))
-      (λ e. rw (eq-eqb flow f (sym e)) (refl, refl, ap (λ (n : ℕ). flowAt u n .next) (sym e)))
-      (λ n. rw (ne-eqb flow f (λ q. n (sym q))) (k .openFlows f b, k .deadlines f b, refl))
+  told : Told (λ (x : Flow). x .opened) (λ (x : Flow). x .deadline) shutFlow 16 (u .flows) (h .marks)
+  told f b = (k .openFlows f b, k .deadlines f b)
 
-  pub kept-open : Kept (opened u flow deadline .lane) (noteOpening h flow deadline (opened u flow deadline .answer))
-  unfolding openIn deadlineIn now-open
-  kept-open =
+  module _ (deadline : ℕ) (d : badDeadline deadline ≡ false) where
+    now-open : Flow
+    now-open = record { opened = true; deadline = deadline; next = flowAt u flow .next }
+
+    pub kept-open : Kept (opened u flow deadline .lane) (marked h (opens flow deadline))
+    unfolding now-open
+    kept-open =
+        let t = told-opened (λ (x : Flow). x .opened) (λ (x : Flow). x .deadline) shutFlow 16 (u .flows) (h .marks) told flow now-open low refl in
+        record {
+          sixteen = length-set (u .flows) flow now-open ∙ k .sixteen;
+          long = k .long;
+          time = k .time;
+          within = k .within;
+          openFlows = λ f b. t f b .0;
+          deadlines = λ f b. t f b .1;
+          live = force-opened (λ n. 1 ≤ n) (h .marks) (k .live) flow deadline (inside deadline 4096 d .0);
+          next = λ f b. set-keeps (u .flows) flow now-open shutFlow low (λ (x : Flow). x .next) refl f ∙ k .next f b;
+          numbered = k .numbered;
+          tied = k .tied;
+          gone = k .gone;
+        }
+
+  now-closed : Flow
+  now-closed = record { opened = false; deadline = flowAt u flow .deadline; next = flowAt u flow .next }
+
+  pub kept-close : Kept (closed u flow .lane) (marked h (closes flow))
+  unfolding now-closed
+  kept-close =
+      let t =
+      told-closed (λ (x : Flow). x .opened) (λ (x : Flow). x .deadline) shutFlow 16 (u .flows) (h .marks) told flow now-closed low refl
+      (k .deadlines flow (omega arith)) in
       record {
-        sixteen = length-set (u .flows) flow now-open ∙ k .sixteen;
+        sixteen = length-set (u .flows) flow now-closed ∙ k .sixteen;
         long = k .long;
         time = k .time;
         within = k .within;
-        openFlows = λ f b. open-flow f b .0;
-        deadlines = λ f b. open-flow f b .1;
-        live = λ f. live f (eqb flow f) (k .live f);
-        next = λ f b. open-flow f b .2 ∙ k .next f b;
+        openFlows = λ f b. t f b .0;
+        deadlines = λ f b. t f b .1;
+        live = force-closed (λ n. 1 ≤ n) (h .marks) (k .live) flow;
+        next = λ f b. set-keeps (u .flows) flow now-closed shutFlow low (λ (x : Flow). x .next) refl f ∙ k .next f b;
         numbered = k .numbered;
         tied = k .tied;
         gone = k .gone;
       }
-    where
-      live : (f : ℕ) (t : Bool) → (openIn (h .openings) f ≡ true → 1 ≤ deadlineIn (h .openings) f)
-          → (t || openIn (h .openings) f) ≡ true → 1 ≤ cond t deadline (deadlineIn (h .openings) f)
-      live f true r o = inside deadline 4096 d .0
-      live f false r o = r o
 
 -- ---- a cell is accepted
 -- as the history has it
 abbrev pub offeredCell : Urgent → Cells → ℕ → Cell
 offeredCell u h flow =
-    record { flow = flow; number = flowAt u flow .next; last = lastSlot u flow; arrival = h .slot; deadline = deadlineIn (h .openings) flow }
+    record { flow = flow; number = flowAt u flow .next; last = lastSlot u flow; arrival = h .slot; deadline = deadlineIn h flow }
 
 module _ (u : Urgent) (h : Cells) (k : Kept u h) (few : Few h) (flow : ℕ) (l : flow ≤ 15) (o : flowAt u flow .opened ≡ true) (room : waitingOf u flow < 16) where
   place : ℕ
@@ -114,7 +132,7 @@ module _ (u : Urgent) (h : Cells) (k : Kept u h) (few : Few h) (flow : ℕ) (l :
   last : ℕ
   last = lastSlot u flow
 
-  is-open : openIn (h .openings) flow ≡ true
+  is-open : openIn (h .marks) flow ≡ true
   is-open = sym (k .openFlows flow (omega arith)) ∙ o
 
   -- the number is new, so it was not sent
@@ -156,7 +174,7 @@ module _ (u : Urgent) (h : Cells) (k : Kept u h) (few : Few h) (flow : ℕ) (l :
       rw own at (at-more (u .cells) place new-place freeCell (free-low isHeld freeCell (u .cells) 16 flow fits-in room) (holds ask) (rw free))
 
   new-cell : Cell
-  new-cell = record { flow = flow; number = number; last = last; arrival = h .slot; deadline = deadlineIn (h .openings) flow }
+  new-cell = record { flow = flow; number = number; last = last; arrival = h .slot; deadline = deadlineIn h flow }
 
   new-waits : waits h new-cell ≡ true
   unfolding new-cell
@@ -175,13 +193,13 @@ module _ (u : Urgent) (h : Cells) (k : Kept u h) (few : Few h) (flow : ℕ) (l :
   after-offer = record { opened = true; deadline = flowAt u flow .deadline; next = (number + 1) % 2 ^ 64 }
 
   offer-flow : (f : ℕ) → f < 16
-      → (getD (set (u .flows) flow after-offer) f shutFlow .opened ≡ openIn (h .openings) f)
-      × (getD (set (u .flows) flow after-offer) f shutFlow .deadline ≡ deadlineIn (h .openings) f)
+      → (getD (set (u .flows) flow after-offer) f shutFlow .opened ≡ openIn (h .marks) f)
+      × (getD (set (u .flows) flow after-offer) f shutFlow .deadline ≡ deadlineIn h f)
       × (getD (set (u .flows) flow after-offer) f shutFlow .next ≡ bit (eqb flow f) + acceptedOf h f)
   unfolding after-offer number
   offer-flow f b =
       set-cases (u .flows) flow after-offer shutFlow (omega (arith, k .sixteen)) f
-      (λ x. (x .opened ≡ openIn (h .openings) f) × (x .deadline ≡ deadlineIn (h .openings) f) × (x .next ≡ bit (eqb flow f) + acceptedOf h f))
+      (λ x. (x .opened ≡ openIn (h .marks) f) × (x .deadline ≡ deadlineIn h f) × (x .next ≡ bit (eqb flow f) + acceptedOf h f))
       (λ e. rw (eq-eqb flow f (sym e), e) (sym is-open, k .deadlines flow (omega arith), fits ∙ omega (arith, k .next flow (omega arith))))
       (λ n. rw (ne-eqb flow f (λ q. n (sym q))) (k .openFlows f b, k .deadlines f b, omega (arith, k .next f b)))
 
@@ -211,5 +229,5 @@ module _ (u : Urgent) (h : Cells) (k : Kept u h) (few : Few h) (flow : ℕ) (l :
   unfolding new-cell number last
   offer-waits = new-waits
 
-  pub offer-window : lastSlot u flow ≡ h .slot + deadlineIn (h .openings) flow - 1
+  pub offer-window : lastSlot u flow ≡ h .slot + deadlineIn h flow - 1
   offer-window = omega (arith, k .time, k .deadlines flow (omega arith))

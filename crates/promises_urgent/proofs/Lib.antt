@@ -9,4 +9,5 @@ pub mod Own
 pub mod Uses
 pub mod Counted
 pub mod Optimal
+pub mod Terms
 pub mod Good

@@ -54,7 +54,7 @@ valid-tail v =
 
 module _ (h : Cells) (k : Best h) where
   pub best-offer : (a : Cell) → a .arrival ≡ h .slot → a .last ≡ windowOf a .last → waits h a ≡ true
-      → Best (record { slot = h .slot; openings = h .openings; accepted = a ∷ h .accepted; usable = h .usable; sent = h .sent; missed = h .missed })
+      → Best (record { slot = h .slot; marks = h .marks; accepted = a ∷ h .accepted; usable = h .usable; sent = h .sent; missed = h .missed })
   unfolding count
   best-offer a n l w = record { past = k .past; most = go }
     where
@@ -121,12 +121,12 @@ module _ (h : Cells) (k : Best h) (missed : ℕ) where
   -- an open turn that sends a cell with this last slot: no waiting cell has an earlier one, and that cell waits no more
   pub best-sent : (g : Gone) (last : ℕ)
       → count (λ (a : Cell). ltb (a .last) last && waits h a) (h .accepted) ≡ 0
-      → ((e : ℕ) → lateOnes (record { slot = h .slot; openings = h .openings; accepted = h .accepted; usable = h .usable; sent = g ∷ h .sent; missed = h .missed }) e + bit (leb e last) ≡ lateOnes h e)
-      → Best (endCells (record { slot = h .slot; openings = h .openings; accepted = h .accepted; usable = h .usable; sent = g ∷ h .sent; missed = h .missed }) (h .slot ∷ h .usable) missed)
+      → ((e : ℕ) → lateOnes (record { slot = h .slot; marks = h .marks; accepted = h .accepted; usable = h .usable; sent = g ∷ h .sent; missed = h .missed }) e + bit (leb e last) ≡ lateOnes h e)
+      → Best (endCells (record { slot = h .slot; marks = h .marks; accepted = h .accepted; usable = h .usable; sent = g ∷ h .sent; missed = h .missed }) (h .slot ∷ h .usable) missed)
   best-sent g last first less = record { past = past-open; most = λ us v e b. go us v e b (leb e last) refl }
     where
       sent : Cells
-      sent = record { slot = h .slot; openings = h .openings; accepted = h .accepted; usable = h .usable; sent = g ∷ h .sent; missed = h .missed }
+      sent = record { slot = h .slot; marks = h .marks; accepted = h .accepted; usable = h .usable; sent = g ∷ h .sent; missed = h .missed }
 
       -- every waiting cell's last slot is e or later
       same : (e : ℕ) → e ≤ last → lateOnes h (h .slot) ≤ lateOnes h e

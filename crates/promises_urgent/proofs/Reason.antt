@@ -14,7 +14,8 @@ use Rattle.places.proofs.Count.{count-le, count-and-le, and-le, bit-le-one}
 use Rattle.urgent.specs.declared.Cell.{Cell as Place}
 use Rattle.places.specs.Members.{Each}
 use Rattle.promises_urgent.specs.Plans.{due, slotsIn, Overloaded}
-use Rattle.promises_urgent.specs.Cells.{Cell, Gone, Cells, noCells, slotOf, wasSent, waits, isMissed, windowOf, windows}
+use Rattle.promises_urgent.specs.Cells.{Cell, Gone, Cells, noCells, wasSent, waits, isMissed, windowOf, windows}
+use Rattle.promises_urgent.specs.Notes.{slotOf}
 use Rattle.promises_urgent.specs.Promised.{Question, Numbered, Explained}
 use Rattle.places.proofs.Members.{none-passes, each-map}
 use Rattle.promises_urgent.proofs.Steps.{withCell, OneLess, waits-told, sent-before, fewer-wait}
@@ -84,7 +85,7 @@ module _ (h : Cells) (r : Reasons h) (a : Cell) (now : a .arrival ≡ h .slot) (
 -- the history after what the turn has sent
 abbrev midway : Cells → Bool → List Gone → Cells
 midway h usable sent =
-    record { slot = h .slot; openings = h .openings; accepted = h .accepted; usable = slotOf usable (h .slot) (h .usable); sent = sent; missed = h .missed }
+    record { slot = h .slot; marks = h .marks; accepted = h .accepted; usable = slotOf usable (h .slot) (h .usable); sent = sent; missed = h .missed }
 
 -- no open slot is to come after the turn
 past-turn : (h : Cells) (usable : Bool) → slotsFrom (h .usable) (h .slot) ≡ 0 → slotsFrom (slotOf usable (h .slot) (h .usable)) (suc (h .slot)) ≡ 0

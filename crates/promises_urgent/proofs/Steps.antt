@@ -21,7 +21,7 @@ use Rattle.promises_urgent.proofs.Turned.{sentCells}
 -- the history after a cell is accepted
 abbrev pub withCell : Cells → Cell → Cells
 withCell h a =
-    record { slot = h .slot; openings = h .openings; accepted = a ∷ h .accepted; usable = h .usable; sent = h .sent; missed = h .missed }
+    record { slot = h .slot; marks = h .marks; accepted = a ∷ h .accepted; usable = h .usable; sent = h .sent; missed = h .missed }
 
 -- of the waiting cells the one that is sent leaves, whatever is asked of them
 abbrev pub OneLess : Cells → ℕ → Place → Type 0

@@ -31,7 +31,7 @@ goneFrom h place c = record { flow = flowOf placeCount place; number = c .number
 
 abbrev pub sentCells : Cells → ℕ → Place → Cells
 sentCells h place c =
-    record { slot = h .slot; openings = h .openings; accepted = h .accepted; usable = h .usable; sent = goneFrom h place c ∷ h .sent; missed = h .missed }
+    record { slot = h .slot; marks = h .marks; accepted = h .accepted; usable = h .usable; sent = goneFrom h place c ∷ h .sent; missed = h .missed }
 
 module _ (u : Urgent) (h : Cells) (k : Kept u h) (place : ℕ) (c : Place) (low : place < length (u .cells)) (there : getD (u .cells) place freeCell ≡ c) (held : c .held ≡ true) where
   -- the cell that is sent
@@ -193,7 +193,7 @@ endLane u = record { now = record { 0 = u .now .0 + 1 }; flows = u .flows; cells
 
 abbrev pub endCells : Cells → List ℕ → ℕ → Cells
 endCells h usable missed =
-    record { slot = suc (h .slot); openings = h .openings; accepted = h .accepted; usable = usable; sent = h .sent; missed = missed }
+    record { slot = suc (h .slot); marks = h .marks; accepted = h .accepted; usable = usable; sent = h .sent; missed = missed }
 
 module _ (u : Urgent) (h : Cells) (k : Kept u h) (low : u .now .0 < slotLimit) (usable : List ℕ) (missed : ℕ) where
   -- a question asked of the cells whose last slot is not now

@@ -1,4 +1,5 @@
 pub mod Plans
 pub mod Cells
+pub mod Notes
 pub mod Promised
 pub mod Refused

@@ -11,10 +11,11 @@ use Rattle.places.specs.Choice.{Key, comesBefore}
 use Rattle.urgent.specs.declared.Urgent.{Urgent}
 use Rattle.urgent.specs.declared.Cell.{Cell as Place}
 use Rattle.urgent.specs.declared.Answer.{Answer}
-use Rattle.urgent.specs.declared.Answer.the-variants.{Refused, Opened, Accepted, Sent, Idle}
+use Rattle.urgent.specs.declared.Answer.the-variants.{Refused, Opened, Closed, Accepted, Sent, Idle}
 use Rattle.urgent.specs.Lane.{flowAt, waitingOf}
 use Rattle.urgent.specs.Calls.{turnOf}
 use Rattle.places.specs.Members.{Each, Some}
+use Rattle.places.specs.Marks.{openIn}
 use Rattle.promises_urgent.specs.Plans.{Sending, Plan, Overloaded}
 use Rattle.promises_urgent.specs.Cells.{Cell, deadlineIn, noCell, Gone, Cells, waits, isMissed, windowOf, windows}
 
@@ -70,6 +71,7 @@ Earliest h (Sent flow number missed) =
 Earliest h (Idle missed) = Each (λ (b : Cell). waits h b ≡ false) (h .accepted)
 Earliest h (Refused r) = slotLimit ≤ h .slot
 Earliest h Opened = ⊥
+Earliest h Closed = ⊥
 Earliest h (Accepted number last) = ⊥
 
 abbrev pub SendsEarliest : Urgent → Cells → Type 0
@@ -86,7 +88,7 @@ Numbered (a ∷ rest) =
 
 -- the last slot of the window of a cell accepted now
 abbrev pub lastIn : Cells → ℕ → ℕ
-lastIn h flow = h .slot + deadlineIn (h .openings) flow - 1
+lastIn h flow = h .slot + deadlineIn h flow - 1
 
 -- U3: and no flow's next number comes near the end of its type.
 abbrev pub FewNumbers : Urgent → Cells → Type 0
@@ -119,3 +121,8 @@ NoneBetter h = (plan : List Sending) → Plan (windows h) (h .usable) plan → l
 -- U6: every missed cell has a reason.
 abbrev pub Explained : Cells → Type 0
 Explained h = Each (λ (a : Cell). isMissed h a ≡ true → Overloaded (windows h) (h .usable) (windowOf a)) (h .accepted)
+
+-- U7: a cell that waits is of an open flow, and the deadline of its acceptance is still in force.
+abbrev pub TermsStand : Cells → Type 0
+TermsStand h =
+    Each (λ (a : Cell). waits h a ≡ true → (openIn (h .marks) (a .flow) ≡ true) × (a .deadline ≡ deadlineIn h (a .flow))) (h .accepted)

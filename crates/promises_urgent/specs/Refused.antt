@@ -6,24 +6,29 @@ use Prim.Native.Nat.{ℕ, _+_}
 use lib.Dec.{leb, ltb}
 use Rattle.units.specs.Limits.{placeCount, slotLimit, noSuchFlow, badDeadline}
 use Rattle.units.specs.Refusals.{Ground, firstOf}
-use Rattle.units.specs.declared.Refusal.the-variants.{NoSuchFlow, NotOpen, AlreadyOpen, BeyondLimit, PlacesFull, SlotsUsedUp}
+use Rattle.units.specs.declared.Refusal.the-variants.{NoSuchFlow, NotOpen, AlreadyOpen, BeyondLimit, PlacesFull, SlotsUsedUp, FlowInUse}
+use Rattle.places.specs.Marks.{openIn}
 use Rattle.urgent.specs.declared.Urgent.{Urgent}
 use Rattle.urgent.specs.Answers.{refusalIn}
-use Rattle.urgent.specs.Calls.{openOf, offerOf, turnOf}
-use Rattle.promises_urgent.specs.Cells.{Cells, openIn, deadlineIn}
+use Rattle.urgent.specs.Calls.{openOf, closeOf, offerOf, turnOf}
+use Rattle.promises_urgent.specs.Cells.{Cells, deadlineIn}
 use Rattle.promises_urgent.specs.Promised.{waitingIn}
 
--- open: an opening of the flow was answered ok; waiting: accepted, not sent, last slot not gone by; the slot: the turns so far
+-- open: opened and not closed since; waiting: accepted, not sent, last slot not gone by; the slot: the turns so far
 abbrev pub openingTold : Cells → ℕ → ℕ → List Ground
 openingTold h flow deadline =
-    (NoSuchFlow, noSuchFlow flow) ∷ (AlreadyOpen, openIn (h .openings) flow) ∷ (BeyondLimit, badDeadline deadline) ∷ []
+    (NoSuchFlow, noSuchFlow flow) ∷ (AlreadyOpen, openIn (h .marks) flow) ∷ (BeyondLimit, badDeadline deadline) ∷ []
+
+abbrev pub closingTold : Cells → ℕ → List Ground
+closingTold h flow =
+    (NoSuchFlow, noSuchFlow flow) ∷ (NotOpen, not (openIn (h .marks) flow)) ∷ (FlowInUse, ltb 0 (waitingIn h flow)) ∷ []
 
 abbrev pub offeringTold : Cells → ℕ → List Ground
 offeringTold h flow =
     (NoSuchFlow, noSuchFlow flow)
-    ∷ (NotOpen, not (openIn (h .openings) flow))
+    ∷ (NotOpen, not (openIn (h .marks) flow))
     ∷ (PlacesFull, leb placeCount (waitingIn h flow))
-    ∷ (SlotsUsedUp, ltb slotLimit (h .slot + deadlineIn (h .openings) flow))
+    ∷ (SlotsUsedUp, ltb slotLimit (h .slot + deadlineIn h flow))
     ∷ []
 
 abbrev pub turnTold : Cells → List Ground
@@ -32,5 +37,6 @@ turnTold h = (SlotsUsedUp, leb slotLimit (h .slot)) ∷ []
 -- S4: each call is refused exactly as the calls and answers so far tell.
 pub record RefusedAsTold (u : Urgent) (h : Cells) : Type 0 where
   pub opening : (flow deadline : ℕ) → refusalIn (openOf u flow deadline .answer) ≡ firstOf (openingTold h flow deadline)
+  pub closing : (flow : ℕ) → refusalIn (closeOf u flow .answer) ≡ firstOf (closingTold h flow)
   pub offering : (flow : ℕ) → refusalIn (offerOf u flow .answer) ≡ firstOf (offeringTold h flow)
   pub turning : (usable : Bool) → refusalIn (turnOf u usable .answer) ≡ firstOf (turnTold h)

@@ -7,9 +7,9 @@ use Rattle.units.specs.declared.Refusal.{Refusal}
 use Rattle.units.specs.declared.Refusal.the-variants.{NoCommand}
 use Rattle.units.specs.Refusals.{numberOf}
 use Rattle.urgent.specs.declared.Answer as urgent
-use Rattle.urgent.specs.declared.Answer.the-variants.{Refused, Opened, Accepted, Sent, Idle}
+use Rattle.urgent.specs.declared.Answer.the-variants.{Refused, Opened, Closed, Accepted, Sent, Idle}
 use Rattle.fair.specs.declared.Answer as fair
-use Rattle.fair.specs.declared.Answer.the-variants.{Refused as Refused', Opened as Opened', Accepted as Accepted', Begun, Ended}
+use Rattle.fair.specs.declared.Answer.the-variants.{Refused as Refused', Opened as Opened', Closed as Closed', Accepted as Accepted', Begun, Ended}
 use Rattle.station.specs.declared.Reply.{Reply}
 use Rattle.station.specs.declared.Reply.the-variants.{Urgent, Fair}
 use Rattle.lines.specs.Grammar.{blank, decimalOf}
@@ -63,6 +63,7 @@ idleLine missed = lineWith idleWord (missedWord ∷ decimalOf missed ∷ [])
 abbrev pub urgentLine : urgent.Answer → List ℕ
 urgentLine (Refused r) = refusalLine r
 urgentLine Opened = lineWith okWord []
+urgentLine Closed = lineWith okWord []
 urgentLine (Accepted number last) = lineWith okWord (decimalOf number ∷ decimalOf (last .0) ∷ [])
 urgentLine (Sent flow number missed) = sentLine flow number missed
 urgentLine (Idle missed) = idleLine missed
@@ -71,6 +72,7 @@ urgentLine (Idle missed) = idleLine missed
 abbrev pub fairLine : fair.Answer → List ℕ
 fairLine (Refused' r) = refusalLine r
 fairLine Opened' = lineWith okWord []
+fairLine Closed' = lineWith okWord []
 fairLine (Accepted' number start finish) = lineWith okWord (decimalOf number ∷ decimalOf (start .0) ∷ decimalOf (finish .0) ∷ [])
 fairLine (Begun flow number len start) = lineWith okWord (decimalOf flow ∷ decimalOf number ∷ decimalOf (start .0) ∷ [])
 fairLine (Ended flow number len) = lineWith okWord (decimalOf flow ∷ decimalOf number ∷ [])

@@ -33,6 +33,7 @@ fn urgent_line(out: &mut [u8], answer: urgent::Answer) -> usize
     match answer {
         urgent::Answer::Refused(refusal) => refusal_line(out, refusal),
         urgent::Answer::Opened => ok(out),
+        urgent::Answer::Closed => ok(out),
         urgent::Answer::Accepted(number, last) => ok_two(out, number, last.0),
         urgent::Answer::Sent(flow, number, missed) => sent(out, flow, number, missed),
         urgent::Answer::Idle(missed) => idle(out, missed),
@@ -47,6 +48,7 @@ fn fair_line(out: &mut [u8], answer: fair::Answer) -> usize
     match answer {
         fair::Answer::Refused(refusal) => refusal_line(out, refusal),
         fair::Answer::Opened => ok(out),
+        fair::Answer::Closed => ok(out),
         fair::Answer::Accepted(number, start, finish) => ok_three(out, number, start.0, finish.0),
         fair::Answer::Begun(flow, number, _, start) => ok_three(out, flow, number, start.0),
         fair::Answer::Ended(flow, number, _) => ok_two(out, flow, number),

@@ -82,6 +82,18 @@ impl Session {
                                 let answer = fair.answer;
                                 told = Reply::Fair(answer);
                             }
+                            Call::CloseUrgent(flow) => {
+                                let lane = urgent.lane;
+                                urgent = lane.close(flow);
+                                let answer = urgent.answer;
+                                told = Reply::Urgent(answer);
+                            }
+                            Call::CloseFair(flow) => {
+                                let lane = fair.lane;
+                                fair = lane.close(flow);
+                                let answer = fair.answer;
+                                told = Reply::Fair(answer);
+                            }
                             Call::OfferCell(flow) => {
                                 let lane = urgent.lane;
                                 urgent = lane.offer(flow);

@@ -7,10 +7,10 @@ use Rattle.urgent.specs.declared.Cell.{Cell}
 use Rattle.urgent.specs.declared.Urgent.{Urgent as UrgentLane}
 use Rattle.urgent.specs.Calls.{turned, chosen}
 use Rattle.urgent.proofs.Cases.{turn-cases}
-use Rattle.urgent.proofs.Cases.{open-cases as urgent-open, offer-cases as cell-cases}
+use Rattle.urgent.proofs.Cases.{open-cases as urgent-open, close-cases as urgent-close, offer-cases as cell-cases}
 use Rattle.fair.proofs.Cases.{begin-cases, end-cases}
-use Rattle.fair.proofs.Cases.{open-cases as fair-open, offer-cases as packet-cases}
-use Rattle.station.specs.declared.Call.the-variants.{OpenUrgent, OpenFair, OfferCell, OfferPacket, OpenTurn, LostTurn, Begin, End}
+use Rattle.fair.proofs.Cases.{open-cases as fair-open, close-cases as fair-close, offer-cases as packet-cases}
+use Rattle.station.specs.declared.Call.the-variants.{OpenUrgent, OpenFair, CloseUrgent, CloseFair, OfferCell, OfferPacket, OpenTurn, LostTurn, Begin, End}
 use Rattle.station.specs.declared.Reply.the-variants.{Urgent, Fair}
 use Rattle.station.specs.Calls.{callOf}
 use Rattle.station.specs.InKind.{InKind, AnsweredInKind}
@@ -22,9 +22,13 @@ open-turned u (at place c) = inr (inl (_, _, _, refl))
 pub answered-in-kind : AnsweredInKind
 unfolding callOf
 answered-in-kind s (OpenUrgent flow deadline) =
-    urgent-open (s .urgent) (λ d. InKind (OpenUrgent flow deadline) (Urgent (d .answer))) (λ r. inl (r, refl)) flow deadline (λ l b. inr refl)
+    urgent-open (s .urgent) (λ d. InKind (OpenUrgent flow deadline) (Urgent (d .answer))) (λ r. inl (r, refl)) flow deadline (λ l o b. inr refl)
 answered-in-kind s (OpenFair flow weight) =
-    fair-open (s .fair) (λ d. InKind (OpenFair flow weight) (Fair (d .answer))) (λ r. inl (r, refl)) flow weight (λ l b. inr refl)
+    fair-open (s .fair) (λ d. InKind (OpenFair flow weight) (Fair (d .answer))) (λ r. inl (r, refl)) flow weight (λ l o b. inr refl)
+answered-in-kind s (CloseUrgent flow) =
+    urgent-close (s .urgent) (λ d. InKind (CloseUrgent flow) (Urgent (d .answer))) (λ r. inl (r, refl)) flow (λ l w. inr refl)
+answered-in-kind s (CloseFair flow) =
+    fair-close (s .fair) (λ d. InKind (CloseFair flow) (Fair (d .answer))) (λ r. inl (r, refl)) flow (λ l w s. inr refl)
 answered-in-kind s (OfferCell flow) =
     cell-cases (s .urgent) (λ d. InKind (OfferCell flow) (Urgent (d .answer))) (λ r. inl (r, refl)) flow (λ l o w. inr (_, _, refl))
 answered-in-kind s (OfferPacket flow length) =

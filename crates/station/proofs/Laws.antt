@@ -4,20 +4,20 @@ use mathlib.Core.Bool.{true, false, true≢false, false≢true}
 use Rattle.units.specs.Refusals.{risesFrom}
 use Rattle.units.specs.Answers.{numberIn}
 use Rattle.urgent.specs.declared.Answer.{Answer as UrgentAnswer}
-use Rattle.urgent.specs.declared.Answer.the-variants.{Refused, Opened, Accepted, Sent, Idle}
+use Rattle.urgent.specs.declared.Answer.the-variants.{Refused, Opened, Closed, Accepted, Sent, Idle}
 use Rattle.urgent.specs.Answers.{told as urgentTold, refusalIn as urgentRefusal}
 use Rattle.fair.specs.declared.Answer.{Answer as FairAnswer}
-use Rattle.fair.specs.declared.Answer.the-variants.{Refused as FairRefused, Opened as FairOpened, Accepted as FairAccepted, Begun, Ended}
+use Rattle.fair.specs.declared.Answer.the-variants.{Refused as FairRefused, Opened as FairOpened, Closed as FairClosed, Accepted as FairAccepted, Begun, Ended}
 use Rattle.fair.specs.Answers.{told as fairTold, refusalIn as fairRefusal}
 use Rattle.urgent.specs.declared.Urgent.{Urgent as UrgentLane}
 use Rattle.fair.specs.declared.Fair.{Fair as FairLane}
-use Rattle.urgent.specs.Calls.{openOf as openUrgentOf, offerOf as offerCellOf, turnOf}
-use Rattle.fair.specs.Calls.{openOf as openFairOf, offerOf as offerPacketOf, beginOf, endOf}
+use Rattle.urgent.specs.Calls.{openOf as openUrgentOf, closeOf as closeUrgentOf, offerOf as offerCellOf, turnOf}
+use Rattle.fair.specs.Calls.{openOf as openFairOf, closeOf as closeFairOf, offerOf as offerPacketOf, beginOf, endOf}
 use Rattle.urgent.proofs.Laws.{refused-first as urgent-first, refused-same as urgent-same}
 use Rattle.fair.proofs.Refused.{refused-first as fair-first, refused-same as fair-same}
 use Rattle.station.specs.declared.Station.{Station}
 use Rattle.station.specs.declared.Call.{Call}
-use Rattle.station.specs.declared.Call.the-variants.{OpenUrgent, OpenFair, OfferCell, OfferPacket, OpenTurn, LostTurn, Begin, End}
+use Rattle.station.specs.declared.Call.the-variants.{OpenUrgent, OpenFair, CloseUrgent, CloseFair, OfferCell, OfferPacket, OpenTurn, LostTurn, Begin, End}
 use Rattle.station.specs.declared.Reply.{Reply}
 use Rattle.station.specs.declared.Reply.the-variants.{Urgent, Fair}
 use Rattle.station.specs.Answers.{told, refusalIn}
@@ -28,6 +28,8 @@ pub refused-first : RefusedFirst
 unfolding callOf
 refused-first s (OpenUrgent flow deadline) = urgent-first (s .urgent) .opening flow deadline
 refused-first s (OpenFair flow weight) = fair-first (s .fair) .opening flow weight
+refused-first s (CloseUrgent flow) = urgent-first (s .urgent) .closing flow
+refused-first s (CloseFair flow) = fair-first (s .fair) .closing flow
 refused-first s (OfferCell flow) = urgent-first (s .urgent) .offering flow
 refused-first s (OfferPacket flow length) = fair-first (s .fair) .offering flow length
 refused-first s OpenTurn = urgent-first (s .urgent) .turning true
@@ -38,6 +40,7 @@ refused-first s End = fair-first (s .fair) .ending
 urgent-number : (a : UrgentAnswer) → urgentTold a .number ≡ numberIn (urgentRefusal a)
 urgent-number (Refused r) = refl
 urgent-number Opened = refl
+urgent-number Closed = refl
 urgent-number (Accepted n l) = refl
 urgent-number (Sent f n m) = refl
 urgent-number (Idle m) = refl
@@ -45,6 +48,7 @@ urgent-number (Idle m) = refl
 fair-number : (a : FairAnswer) → fairTold a .number ≡ numberIn (fairRefusal a)
 fair-number (FairRefused r) = refl
 fair-number FairOpened = refl
+fair-number FairClosed = refl
 fair-number (FairAccepted n s f) = refl
 fair-number (Begun f n l s) = refl
 fair-number (Ended f n l) = refl
@@ -60,6 +64,8 @@ pub grounds-rise : GroundsRise
 unfolding risesFrom
 grounds-rise s (OpenUrgent flow deadline) = refl
 grounds-rise s (OpenFair flow weight) = refl
+grounds-rise s (CloseUrgent flow) = refl
+grounds-rise s (CloseFair flow) = refl
 grounds-rise s (OfferCell flow) = refl
 grounds-rise s (OfferPacket flow length) = refl
 grounds-rise s OpenTurn = refl
@@ -78,6 +84,8 @@ pub refused-same : RefusedSame
 unfolding callOf
 refused-same s (OpenUrgent flow deadline) r e = urgent-back s _ (urgent-same (s .urgent) r .opening flow deadline e)
 refused-same s (OpenFair flow weight) r e = fair-back s _ (fair-same (s .fair) r .opening flow weight e)
+refused-same s (CloseUrgent flow) r e = urgent-back s _ (urgent-same (s .urgent) r .closing flow e)
+refused-same s (CloseFair flow) r e = fair-back s _ (fair-same (s .fair) r .closing flow e)
 refused-same s (OfferCell flow) r e = urgent-back s _ (urgent-same (s .urgent) r .offering flow e)
 refused-same s (OfferPacket flow length) r e = fair-back s _ (fair-same (s .fair) r .offering flow length e)
 refused-same s OpenTurn r e = urgent-back s _ (urgent-same (s .urgent) r .turning true e)
@@ -89,6 +97,8 @@ urgent-call : (s : Station) (call : Call) → isUrgent call ≡ true → callOf 
 unfolding callOf
 urgent-call s (OpenUrgent flow deadline) e = refl
 urgent-call s (OpenFair flow weight) e = absurd (false≢true e)
+urgent-call s (CloseUrgent flow) e = refl
+urgent-call s (CloseFair flow) e = absurd (false≢true e)
 urgent-call s (OfferCell flow) e = refl
 urgent-call s (OfferPacket flow length) e = absurd (false≢true e)
 urgent-call s OpenTurn e = refl
@@ -100,6 +110,8 @@ fair-call : (s : Station) (call : Call) → isUrgent call ≡ false → callOf s
 unfolding callOf
 fair-call s (OpenUrgent flow deadline) e = absurd (true≢false e)
 fair-call s (OpenFair flow weight) e = refl
+fair-call s (CloseUrgent flow) e = absurd (true≢false e)
+fair-call s (CloseFair flow) e = refl
 fair-call s (OfferCell flow) e = absurd (true≢false e)
 fair-call s (OfferPacket flow length) e = refl
 fair-call s OpenTurn e = absurd (true≢false e)
@@ -113,6 +125,9 @@ unfolding callOf
 urgent-alone s t (OpenUrgent flow deadline) e p =
     (ap (λ (u : UrgentLane). Urgent (openUrgentOf u flow deadline .answer)) p, ap (λ (u : UrgentLane). openUrgentOf u flow deadline .lane) p)
 urgent-alone s t (OpenFair flow weight) e p = absurd (false≢true e)
+urgent-alone s t (CloseUrgent flow) e p =
+    (ap (λ (u : UrgentLane). Urgent (closeUrgentOf u flow .answer)) p, ap (λ (u : UrgentLane). closeUrgentOf u flow .lane) p)
+urgent-alone s t (CloseFair flow) e p = absurd (false≢true e)
 urgent-alone s t (OfferCell flow) e p = (ap (λ (u : UrgentLane). Urgent (offerCellOf u flow .answer)) p, ap (λ (u : UrgentLane). offerCellOf u flow .lane) p)
 urgent-alone s t (OfferPacket flow length) e p = absurd (false≢true e)
 urgent-alone s t OpenTurn e p = (ap (λ (u : UrgentLane). Urgent (turnOf u true .answer)) p, ap (λ (u : UrgentLane). turnOf u true .lane) p)
@@ -126,6 +141,8 @@ unfolding callOf
 fair-alone s t (OpenUrgent flow deadline) e p = absurd (true≢false e)
 fair-alone s t (OpenFair flow weight) e p =
     (ap (λ (u : FairLane). Fair (openFairOf u flow weight .answer)) p, ap (λ (u : FairLane). openFairOf u flow weight .lane) p)
+fair-alone s t (CloseUrgent flow) e p = absurd (true≢false e)
+fair-alone s t (CloseFair flow) e p = (ap (λ (u : FairLane). Fair (closeFairOf u flow .answer)) p, ap (λ (u : FairLane). closeFairOf u flow .lane) p)
 fair-alone s t (OfferCell flow) e p = absurd (true≢false e)
 fair-alone s t (OfferPacket flow length) e p =
     (ap (λ (u : FairLane). Fair (offerPacketOf u flow length .answer)) p, ap (λ (u : FairLane). offerPacketOf u flow length .lane) p)

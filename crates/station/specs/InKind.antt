@@ -5,13 +5,13 @@ use Prim.Native.Nat.{ℕ}
 use Rattle.units.specs.declared.Refusal.{Refusal}
 use Rattle.units.specs.declared.Slot.{Slot}
 use Rattle.units.specs.declared.Tag.{Tag}
-use Rattle.urgent.specs.declared.Answer.the-variants.{Refused, Opened, Accepted, Sent, Idle}
-use Rattle.fair.specs.declared.Answer.the-variants.{Refused as FairRefused, Opened as FairOpened, Accepted as FairAccepted, Begun, Ended}
+use Rattle.urgent.specs.declared.Answer.the-variants.{Refused, Opened, Closed, Accepted, Sent, Idle}
+use Rattle.fair.specs.declared.Answer.the-variants.{Refused as FairRefused, Opened as FairOpened, Closed as FairClosed, Accepted as FairAccepted, Begun, Ended}
 use Rattle.station.specs.declared.Station.{Station}
 use Rattle.station.specs.declared.Reply.{Reply}
 use Rattle.station.specs.declared.Reply.the-variants.{Urgent, Fair}
 use Rattle.station.specs.declared.Call.{Call}
-use Rattle.station.specs.declared.Call.the-variants.{OpenUrgent, OpenFair, OfferCell, OfferPacket, OpenTurn, LostTurn, Begin, End}
+use Rattle.station.specs.declared.Call.the-variants.{OpenUrgent, OpenFair, CloseUrgent, CloseFair, OfferCell, OfferPacket, OpenTurn, LostTurn, Begin, End}
 use Rattle.station.specs.Calls.{callOf}
 
 -- a refusal of either lane
@@ -28,6 +28,8 @@ IsIdle reply = (missed : ℕ) × (reply ≡ Urgent (Idle missed))
 abbrev pub InKind : Call → Reply → Type 0
 InKind (OpenUrgent flow deadline) reply = UrgentNo reply ⊎ (reply ≡ Urgent Opened)
 InKind (OpenFair flow weight) reply = FairNo reply ⊎ (reply ≡ Fair FairOpened)
+InKind (CloseUrgent flow) reply = UrgentNo reply ⊎ (reply ≡ Urgent Closed)
+InKind (CloseFair flow) reply = FairNo reply ⊎ (reply ≡ Fair FairClosed)
 InKind (OfferCell flow) reply = UrgentNo reply ⊎ ((number : ℕ) × (last : Slot) × (reply ≡ Urgent (Accepted number last)))
 InKind (OfferPacket flow length) reply =
     FairNo reply ⊎ ((number : ℕ) × (start : Tag) × (finish : Tag) × (reply ≡ Fair (FairAccepted number start finish)))

@@ -6,12 +6,12 @@ use mathlib.Core.Option.{some}
 use Rattle.units.specs.Refusals.{Ground, firstOf, Rises}
 use Rattle.units.specs.Answers.{numberIn}
 use Rattle.units.specs.declared.Refusal.{Refusal}
-use Rattle.urgent.specs.Lane.{openingGrounds as urgentOpening, offeringGrounds as cellOffering, turnGrounds}
-use Rattle.fair.specs.Lane.{flowAt, waitingOf, startOf, beginGrounds, endGrounds}
-use Rattle.tags.specs.Grounds.{openingGrounds as fairOpening, offeringGrounds as packetOffering}
+use Rattle.urgent.specs.Lane.{openingGrounds as urgentOpening, closingGrounds as urgentClosing, offeringGrounds as cellOffering, turnGrounds}
+use Rattle.fair.specs.Lane.{flowAt, waitingOf, serves, startOf, beginGrounds, endGrounds}
+use Rattle.tags.specs.Grounds.{openingGrounds as fairOpening, closingGrounds as fairClosing, offeringGrounds as packetOffering}
 use Rattle.station.specs.declared.Station.{Station}
 use Rattle.station.specs.declared.Call.{Call}
-use Rattle.station.specs.declared.Call.the-variants.{OpenUrgent, OpenFair, OfferCell, OfferPacket, OpenTurn, LostTurn, Begin, End}
+use Rattle.station.specs.declared.Call.the-variants.{OpenUrgent, OpenFair, CloseUrgent, CloseFair, OfferCell, OfferPacket, OpenTurn, LostTurn, Begin, End}
 use Rattle.station.specs.Calls.{callOf}
 use Rattle.station.specs.Answers.{told, refusalIn}
 
@@ -19,6 +19,8 @@ use Rattle.station.specs.Answers.{told, refusalIn}
 abbrev pub groundsOf : Station → Call → List Ground
 groundsOf s (OpenUrgent flow deadline) = urgentOpening (s .urgent) flow deadline
 groundsOf s (OpenFair flow weight) = fairOpening flow weight (flowAt (s .fair) flow)
+groundsOf s (CloseUrgent flow) = urgentClosing (s .urgent) flow
+groundsOf s (CloseFair flow) = fairClosing flow (flowAt (s .fair) flow) (waitingOf (s .fair) flow) (serves (s .fair) flow)
 groundsOf s (OfferCell flow) = cellOffering (s .urgent) flow
 groundsOf s (OfferPacket flow length) = packetOffering flow (flowAt (s .fair) flow) (waitingOf (s .fair) flow) (startOf (s .fair) flow) length
 groundsOf s OpenTurn = turnGrounds (s .urgent)
@@ -46,6 +48,8 @@ RefusedSame = (s : Station) (call : Call) (r : Refusal) → refusalIn (callOf s 
 abbrev pub isUrgent : Call → Bool
 isUrgent (OpenUrgent flow deadline) = true
 isUrgent (OpenFair flow weight) = false
+isUrgent (CloseUrgent flow) = true
+isUrgent (CloseFair flow) = false
 isUrgent (OfferCell flow) = true
 isUrgent (OfferPacket flow length) = false
 isUrgent OpenTurn = true

@@ -2,9 +2,11 @@
 ghost use mathlib.Core.Path.{_≡_};
 ghost use Rattle.urgent.specs.Calls.{turnOf};
 ghost use Rattle.urgent.specs.Calls.{openOf as openUrgentOf};
+ghost use Rattle.urgent.specs.Calls.{closeOf as closeUrgentOf};
 ghost use Rattle.urgent.specs.Calls.{offerOf as offerCellOf};
 ghost use Rattle.fair.specs.Calls.{beginOf, endOf};
 ghost use Rattle.fair.specs.Calls.{openOf as openFairOf};
+ghost use Rattle.fair.specs.Calls.{closeOf as closeFairOf};
 ghost use Rattle.fair.specs.Calls.{offerOf as offerPacketOf};
 ghost use Rattle.station.specs.Calls.{freshStation, byUrgent, byFair, callOf};
 use fair::Fair;
@@ -23,6 +25,10 @@ pub enum Call {
     OpenUrgent(u64, u64),
     // Opens a flow of the fair lane: the flow and its weight.
     OpenFair(u64, u64),
+    // Closes a flow of the urgent lane: the flow.
+    CloseUrgent(u64),
+    // Closes a flow of the fair lane: the flow.
+    CloseFair(u64),
     // Offers a cell: the flow.
     OfferCell(u64),
     // Offers a packet: the flow and the length.
@@ -70,6 +76,24 @@ impl Station {
     {
         let lane = self.fair;
         let done = lane.open(flow, weight);
+        by_fair(self, done)
+    }
+
+    // Closes a flow of the urgent lane that has no cell waiting.
+    pub fn close_urgent(self, flow: u64) -> Called
+        ensures { λ r. ⌜ r ≡ byUrgent self (closeUrgentOf (self .urgent) flow) ⌝ }
+    {
+        let lane = self.urgent;
+        let done = lane.close(flow);
+        by_urgent(self, done)
+    }
+
+    // Closes a flow of the fair lane that has no packet waiting or in service.
+    pub fn close_fair(self, flow: u64) -> Called
+        ensures { λ r. ⌜ r ≡ byFair self (closeFairOf (self .fair) flow) ⌝ }
+    {
+        let lane = self.fair;
+        let done = lane.close(flow);
         by_fair(self, done)
     }
 
@@ -125,6 +149,8 @@ impl Station {
         match call {
             Call::OpenUrgent(flow, deadline) => self.open_urgent(flow, deadline),
             Call::OpenFair(flow, weight) => self.open_fair(flow, weight),
+            Call::CloseUrgent(flow) => self.close_urgent(flow),
+            Call::CloseFair(flow) => self.close_fair(flow),
             Call::OfferCell(flow) => self.offer_cell(flow),
             Call::OfferPacket(flow, length) => self.offer_packet(flow, length),
             Call::OpenTurn => self.turn(true),

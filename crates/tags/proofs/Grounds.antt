@@ -5,4 +5,4 @@ use Rattle.tags.specs.Grounds.{GroundsRise}
 
 pub grounds-rise : GroundsRise
 unfolding risesFrom
-grounds-rise flow weight was waiting start length = (refl, refl, refl)
+grounds-rise flow weight was waiting served start length = (refl, refl, refl, refl)

@@ -1,12 +1,12 @@
 -- The conditions under which a fair queue refuses an opening or an offer.
-use mathlib.Core.Bool.{not, _||_}
+use mathlib.Core.Bool.{Bool, not, _||_}
 use mathlib.Core.List.{List, [], _∷_, _++_}
 use Prim.Native.Nat.{ℕ}
 use lib.Dec.{ltb, leb}
 use Rattle.units.specs.Limits.{placeCount, tagLimit, noSuchFlow, badWeight, badLength}
 use Rattle.units.specs.Refusals.{Ground, Rises}
 use Rattle.units.specs.declared.Tag.{Tag}
-use Rattle.units.specs.declared.Refusal.the-variants.{NoSuchFlow, NotOpen, AlreadyOpen, BeyondLimit, PlacesFull, TagsUsedUp}
+use Rattle.units.specs.declared.Refusal.the-variants.{NoSuchFlow, NotOpen, AlreadyOpen, BeyondLimit, PlacesFull, TagsUsedUp, FlowInUse}
 use Rattle.tags.specs.declared.Flow.{Flow}
 use Rattle.tags.specs.Tags.{finishAt}
 
@@ -14,6 +14,11 @@ use Rattle.tags.specs.Tags.{finishAt}
 abbrev pub openingGrounds : ℕ → ℕ → Flow → List Ground
 openingGrounds flow weight was =
     (NoSuchFlow, noSuchFlow flow) ∷ (AlreadyOpen, was .opened) ∷ (BeyondLimit, badWeight weight) ∷ []
+
+-- closing a flow of which so many packets wait, and of which one may be in service
+abbrev pub closingGrounds : ℕ → Flow → ℕ → Bool → List Ground
+closingGrounds flow was waiting served =
+    (NoSuchFlow, noSuchFlow flow) ∷ (NotOpen, not (was .opened)) ∷ (FlowInUse, ltb 0 waiting || served) ∷ []
 
 -- offering a packet of this length to a flow of which so many wait: what needs no tag
 abbrev pub waitingGrounds : ℕ → Flow → ℕ → ℕ → List Ground
@@ -32,8 +37,11 @@ tagGround was start length = (TagsUsedUp, ltb tagLimit (finishAt start length (w
 abbrev pub offeringGrounds : ℕ → Flow → ℕ → Tag → ℕ → List Ground
 offeringGrounds flow was waiting start length = waitingGrounds flow was waiting length ++ tagGround was start length ∷ []
 
--- The numbers of opening's and of offering's refusals rise, so that the first whose condition holds is the lowest.
+-- The numbers of opening's, of closing's and of offering's refusals rise, so that the first whose condition holds is the lowest.
 abbrev pub GroundsRise : Type 0
 GroundsRise =
-    (flow weight : ℕ) (was : Flow) (waiting : ℕ) (start : Tag) (length : ℕ)
-    → Rises (openingGrounds flow weight was) × Rises (waitingGrounds flow was waiting length) × Rises (offeringGrounds flow was waiting start length)
+    (flow weight : ℕ) (was : Flow) (waiting : ℕ) (served : Bool) (start : Tag) (length : ℕ)
+    → Rises (openingGrounds flow weight was)
+    × Rises (closingGrounds flow was waiting served)
+    × Rises (waitingGrounds flow was waiting length)
+    × Rises (offeringGrounds flow was waiting start length)

@@ -6,7 +6,7 @@ use Prim.Native.Nat.{ℕ}
 use lib.Dec.{ltb}
 use mathlib.Core.Option.{Option, none, some}
 use Rattle.units.specs.declared.Refusal.{Refusal}
-use Rattle.units.specs.declared.Refusal.the-variants.{NoSuchFlow, NotOpen, AlreadyOpen, BeyondLimit, PlacesFull, TagsUsedUp, SlotsUsedUp, PacketInService, NothingWaits, NothingInService, NoCommand}
+use Rattle.units.specs.declared.Refusal.the-variants.{NoSuchFlow, NotOpen, AlreadyOpen, BeyondLimit, PlacesFull, TagsUsedUp, SlotsUsedUp, PacketInService, NothingWaits, NothingInService, NoCommand, FlowInUse}
 
 abbrev pub numberOf : Refusal → ℕ
 numberOf NoSuchFlow = 1
@@ -20,6 +20,7 @@ numberOf PacketInService = 8
 numberOf NothingWaits = 9
 numberOf NothingInService = 10
 numberOf NoCommand = 11
+numberOf FlowInUse = 12
 
 -- a refusal and whether its condition holds for the call at hand
 abbrev pub Ground : Type 0

@@ -28,6 +28,7 @@ pub enum Refusal {
     NothingWaits,
     NothingInService,
     NoCommand,
+    FlowInUse,
 }
 
 // The highest flow number, the first slot number that no turn has, and the largest tag.
@@ -74,6 +75,7 @@ impl Refusal {
             Refusal::NothingWaits => 9,
             Refusal::NothingInService => 10,
             Refusal::NoCommand => 11,
+            Refusal::FlowInUse => 12,
         }
     }
 }

@@ -8,7 +8,7 @@ use borrow.Author.Tests.{lt-ltb, le-ltb, le-leb, lt-leb}
 use lib.ListN.{length, set}
 use Rattle.units.specs.Limits.{placeCount, slotLimit, badDeadline}
 use Rattle.units.specs.Refusals.{firstOf}
-use Rattle.units.specs.declared.Refusal.the-variants.{NoSuchFlow, NotOpen, AlreadyOpen, BeyondLimit, PlacesFull, SlotsUsedUp}
+use Rattle.units.specs.declared.Refusal.the-variants.{NoSuchFlow, NotOpen, AlreadyOpen, BeyondLimit, PlacesFull, SlotsUsedUp, FlowInUse}
 use Rattle.places.specs.Places.{count, placesOf, firstFree, clearedAll}
 use Rattle.places.specs.Choice.{nothing, at}
 use Rattle.places.proofs.Free.{part-full, part-room}
@@ -16,8 +16,8 @@ use Rattle.urgent.specs.declared.Cell.{Cell}
 use Rattle.urgent.specs.declared.Urgent.{Urgent}
 use Rattle.urgent.specs.declared.Answer.{Answer}
 use Rattle.urgent.specs.declared.Answer.the-variants.{Accepted, Sent, Idle}
-use Rattle.urgent.specs.Lane.{freeCell, isHeld, flowAt, lastIs}
-use Rattle.urgent.specs.Calls.{refused, opened, openOf, offerOf, chosen, turnOf}
+use Rattle.urgent.specs.Lane.{freeCell, isHeld, flowAt, waitingOf, lastIs}
+use Rattle.urgent.specs.Calls.{refused, opened, openOf, closed, closeOf, offerOf, chosen, turnOf}
 
 module _ (u : Urgent) (flow deadline : ℕ) where
   pub open-1 : 15 < flow → refused u NoSuchFlow ≡ openOf u flow deadline
@@ -36,6 +36,24 @@ module _ (u : Urgent) (flow deadline : ℕ) where
     pub open-ok : flowAt u flow .opened ≡ false → badDeadline deadline ≡ false → opened u flow deadline ≡ openOf u flow deadline
     unfolding openOf firstOf
     open-ok o d = rw (le-ltb 15 flow h, o, d)
+
+module _ (u : Urgent) (flow : ℕ) where
+  pub close-1 : 15 < flow → refused u NoSuchFlow ≡ closeOf u flow
+  unfolding closeOf firstOf
+  close-1 h = rw (lt-ltb 15 flow h)
+
+  module _ (h : flow ≤ 15) where
+    pub close-2 : not (flowAt u flow .opened) ≡ true → refused u NotOpen ≡ closeOf u flow
+    unfolding closeOf firstOf
+    close-2 o = rw (le-ltb 15 flow h, o)
+
+    pub close-12 : not (flowAt u flow .opened) ≡ false → 0 < waitingOf u flow → refused u FlowInUse ≡ closeOf u flow
+    unfolding closeOf firstOf
+    close-12 o w = rw (le-ltb 15 flow h, o, lt-ltb 0 (waitingOf u flow) w)
+
+    pub close-ok : not (flowAt u flow .opened) ≡ false → waitingOf u flow ≤ 0 → closed u flow ≡ closeOf u flow
+    unfolding closeOf firstOf
+    close-ok o w = rw (le-ltb 15 flow h, o, le-ltb 0 (waitingOf u flow) w)
 
 module _ (u : Urgent) (flow : ℕ) where
   pub offer-1 : 15 < flow → refused u NoSuchFlow ≡ offerOf u flow

@@ -8,23 +8,34 @@ use lib.Dec.{ltb, leb}
 use Rattle.units.specs.Limits.{slotLimit, badDeadline}
 use Rattle.units.specs.Refusals.{firstOf}
 use Rattle.units.specs.declared.Refusal.{Refusal}
-use Rattle.units.specs.declared.Refusal.the-variants.{NoSuchFlow, NotOpen, AlreadyOpen, BeyondLimit, PlacesFull, SlotsUsedUp}
+use Rattle.units.specs.declared.Refusal.the-variants.{NoSuchFlow, NotOpen, AlreadyOpen, BeyondLimit, PlacesFull, SlotsUsedUp, FlowInUse}
 use Rattle.urgent.specs.declared.Urgent.{Urgent}
 use Rattle.urgent.specs.declared.Done.{Done}
 use Rattle.urgent.specs.Lane.{flowAt, waitingOf}
-use Rattle.urgent.specs.Calls.{refused, unless, opened, openOf, accepted, offerOf, chosen, turned, turnOf}
+use Rattle.urgent.specs.Calls.{refused, unless, opened, openOf, closed, closeOf, accepted, offerOf, chosen, turned, turnOf}
 
 module _ (u : Urgent) (P : Done → Type 0) (no : (r : Refusal) → P (refused u r)) where
-  pub open-cases : (flow deadline : ℕ) → (flow ≤ 15 → badDeadline deadline ≡ false → P (opened u flow deadline)) → P (openOf u flow deadline)
+  pub open-cases : (flow deadline : ℕ) → (flow ≤ 15 → flowAt u flow .opened ≡ false → badDeadline deadline ≡ false → P (opened u flow deadline)) → P (openOf u flow deadline)
   unfolding openOf firstOf
-  open-cases flow deadline ok = go (ltb 15 flow) refl (flowAt u flow .opened) (badDeadline deadline) refl
+  open-cases flow deadline ok = go (ltb 15 flow) refl (flowAt u flow .opened) refl (badDeadline deadline) refl
     where
-      go : (a : Bool) → ltb 15 flow ≡ a → (b d : Bool) → badDeadline deadline ≡ d
+      go : (a : Bool) → ltb 15 flow ≡ a → (b : Bool) → flowAt u flow .opened ≡ b → (d : Bool) → badDeadline deadline ≡ d
           → P (unless u (cond a (some NoSuchFlow) (cond b (some AlreadyOpen) (cond d (some BeyondLimit) none))) (opened u flow deadline))
-      go true p b d q = no NoSuchFlow
-      go false p true d q = no AlreadyOpen
-      go false p false true q = no BeyondLimit
-      go false p false false q = ok (ltb-false 15 flow p) q
+      go true p b o d q = no NoSuchFlow
+      go false p true o d q = no AlreadyOpen
+      go false p false o true q = no BeyondLimit
+      go false p false o false q = ok (ltb-false 15 flow p) o q
+
+  pub close-cases : (flow : ℕ) → (flow ≤ 15 → waitingOf u flow ≤ 0 → P (closed u flow)) → P (closeOf u flow)
+  unfolding closeOf firstOf
+  close-cases flow ok = go (ltb 15 flow) refl (flowAt u flow .opened) (ltb 0 (waitingOf u flow)) refl
+    where
+      go : (a : Bool) → ltb 15 flow ≡ a → (b c : Bool) → ltb 0 (waitingOf u flow) ≡ c
+          → P (unless u (cond a (some NoSuchFlow) (cond (not b) (some NotOpen) (cond c (some FlowInUse) none))) (closed u flow))
+      go true p b c w = no NoSuchFlow
+      go false p false c w = no NotOpen
+      go false p true true w = no FlowInUse
+      go false p true false w = ok (ltb-false 15 flow p) (ltb-false 0 (waitingOf u flow) w)
 
   pub offer-cases : (flow : ℕ) → (flow ≤ 15 → flowAt u flow .opened ≡ true → waitingOf u flow < 16 → P (accepted u flow)) → P (offerOf u flow)
   unfolding offerOf firstOf

@@ -10,8 +10,8 @@ use Rattle.places.proofs.Least.{leads}
 use Rattle.urgent.specs.declared.Cell.{Cell as Place}
 use Rattle.urgent.specs.declared.Urgent.{Urgent}
 use Rattle.urgent.specs.declared.Done.{Done}
-use Rattle.urgent.specs.Lane.{freeCell, isHeld, keyOf, openingGrounds, offeringGrounds, turnGrounds}
-use Rattle.urgent.specs.Calls.{unless, opened, openOf, accepted, offerOf, chosen, turned, turnOf}
+use Rattle.urgent.specs.Lane.{freeCell, isHeld, keyOf, openingGrounds, closingGrounds, offeringGrounds, turnGrounds}
+use Rattle.urgent.specs.Calls.{unless, opened, openOf, closed, closeOf, accepted, offerOf, chosen, turned, turnOf}
 use Rattle.urgent.specs.Answers.{refusalIn}
 use Rattle.urgent.specs.Laws.{SendsFirst, RefusedFirst, RefusedSame, GroundsRise}
 
@@ -34,23 +34,25 @@ turned-taken u nothing = refl
 turned-taken u (at place c) = refl
 
 pub refused-first : (u : Urgent) → RefusedFirst u
-unfolding openOf offerOf turnOf
+unfolding openOf closeOf offerOf turnOf
 refused-first u =
     record {
       opening = λ flow deadline. unless-first u (firstOf (openingGrounds u flow deadline)) (opened u flow deadline) refl;
+      closing = λ flow. unless-first u (firstOf (closingGrounds u flow)) (closed u flow) refl;
       offering = λ flow. unless-first u (firstOf (offeringGrounds u flow)) (accepted u flow) refl;
       turning = λ usable. unless-first u (firstOf (turnGrounds u)) (turned u (chosen u usable)) (turned-taken u (chosen u usable));
     }
 
 pub refused-same : (u : Urgent) (r : Refusal) → RefusedSame u r
-unfolding openOf offerOf turnOf
+unfolding openOf closeOf offerOf turnOf
 refused-same u r =
     record {
       opening = λ flow deadline. unless-same u (firstOf (openingGrounds u flow deadline)) (opened u flow deadline) refl r;
+      closing = λ flow. unless-same u (firstOf (closingGrounds u flow)) (closed u flow) refl r;
       offering = λ flow. unless-same u (firstOf (offeringGrounds u flow)) (accepted u flow) refl r;
       turning = λ usable. unless-same u (firstOf (turnGrounds u)) (turned u (chosen u usable)) (turned-taken u (chosen u usable)) r;
     }
 
 pub grounds-rise : GroundsRise
 unfolding risesFrom
-grounds-rise u flow deadline = (refl, refl, refl)
+grounds-rise u flow deadline = (refl, refl, refl, refl)

@@ -1,5 +1,5 @@
 -- What each call of the urgent lane gives, over every state.
-use mathlib.Core.Bool.{Bool, true, cond}
+use mathlib.Core.Bool.{Bool, true, false, cond}
 use mathlib.Core.List.{List}
 use mathlib.Core.Option.{Option, none, some}
 use Prim.Native.Nat.{ℕ, _+_, _-_, _*_, _%_, _^_}
@@ -13,8 +13,8 @@ use Rattle.urgent.specs.declared.Cell.{Cell}
 use Rattle.urgent.specs.declared.Urgent.{Urgent}
 use Rattle.urgent.specs.declared.Done.{Done}
 use Rattle.urgent.specs.declared.Answer.{Answer}
-use Rattle.urgent.specs.declared.Answer.the-variants.{Refused, Opened, Accepted, Sent, Idle}
-use Rattle.urgent.specs.Lane.{freeCell, isHeld, flowAt, keyOf, lastIs, openingGrounds, offeringGrounds, turnGrounds}
+use Rattle.urgent.specs.declared.Answer.the-variants.{Refused, Opened, Closed, Accepted, Sent, Idle}
+use Rattle.urgent.specs.Lane.{freeCell, isHeld, flowAt, keyOf, lastIs, openingGrounds, closingGrounds, offeringGrounds, turnGrounds}
 
 -- a refused call hands the lane back as it was
 abbrev pub refused : Urgent → Refusal → Done
@@ -41,6 +41,23 @@ opened u flow deadline =
 -- what opening a flow with a deadline gives
 unfoldable pub openOf : Urgent → ℕ → ℕ → Done
 openOf u flow deadline = unless u (firstOf (openingGrounds u flow deadline)) (opened u flow deadline)
+
+-- closing: the flow's record keeps its deadline and its numbers, and loses its mark
+abbrev pub closed : Urgent → ℕ → Done
+closed u flow =
+    record {
+      lane =
+          record {
+            now = u .now;
+            flows = set (u .flows) flow (record { opened = false; deadline = flowAt u flow .deadline; next = flowAt u flow .next });
+            cells = u .cells;
+          };
+      answer = Closed;
+    }
+
+-- what closing a flow gives
+unfoldable pub closeOf : Urgent → ℕ → Done
+closeOf u flow = unless u (firstOf (closingGrounds u flow)) (closed u flow)
 
 -- the last slot of the window of a cell offered now, which is now to now + deadline - 1
 abbrev pub lastSlot : Urgent → ℕ → ℕ

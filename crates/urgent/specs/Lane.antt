@@ -6,7 +6,7 @@ use lib.Dec.{ltb, leb, eqb}
 use lib.ListN.{getD, replicate}
 use Rattle.units.specs.Limits.{placeCount, slotLimit, noSuchFlow, badDeadline}
 use Rattle.units.specs.Refusals.{Ground}
-use Rattle.units.specs.declared.Refusal.the-variants.{NoSuchFlow, NotOpen, AlreadyOpen, BeyondLimit, PlacesFull, SlotsUsedUp}
+use Rattle.units.specs.declared.Refusal.the-variants.{NoSuchFlow, NotOpen, AlreadyOpen, BeyondLimit, PlacesFull, SlotsUsedUp, FlowInUse}
 use Rattle.places.specs.Places.{count, placesOf, flowOf}
 use Rattle.places.specs.Choice.{Key}
 use Rattle.urgent.specs.declared.Cell.{Cell}
@@ -47,6 +47,10 @@ lastIs now c = c .held && eqb (c .last .0) now
 abbrev pub openingGrounds : Urgent → ℕ → ℕ → List Ground
 openingGrounds u flow deadline =
     (NoSuchFlow, noSuchFlow flow) ∷ (AlreadyOpen, flowAt u flow .opened) ∷ (BeyondLimit, badDeadline deadline) ∷ []
+
+abbrev pub closingGrounds : Urgent → ℕ → List Ground
+closingGrounds u flow =
+    (NoSuchFlow, noSuchFlow flow) ∷ (NotOpen, not (flowAt u flow .opened)) ∷ (FlowInUse, ltb 0 (waitingOf u flow)) ∷ []
 
 abbrev pub offeringGrounds : Urgent → ℕ → List Ground
 offeringGrounds u flow =

@@ -7,8 +7,8 @@ use Rattle.units.specs.Refusals.{Rises, firstOf}
 use Rattle.units.specs.declared.Refusal.{Refusal}
 use Rattle.places.specs.Choice.{Leads}
 use Rattle.urgent.specs.declared.Urgent.{Urgent}
-use Rattle.urgent.specs.Lane.{freeCell, isHeld, keyOf, openingGrounds, offeringGrounds, turnGrounds}
-use Rattle.urgent.specs.Calls.{openOf, offerOf, chosen, turnOf}
+use Rattle.urgent.specs.Lane.{freeCell, isHeld, keyOf, openingGrounds, closingGrounds, offeringGrounds, turnGrounds}
+use Rattle.urgent.specs.Calls.{openOf, closeOf, offerOf, chosen, turnOf}
 use Rattle.urgent.specs.Answers.{refusalIn}
 
 -- The cell that an open turn sends waits, and no waiting cell comes before it by last slot, flow and number; nothing is sent only where nothing waits.
@@ -18,12 +18,14 @@ SendsFirst = (u : Urgent) → Leads isHeld keyOf freeCell (u .cells) (chosen u t
 -- Each call is refused exactly for the first of its grounds that holds.
 pub record RefusedFirst (u : Urgent) : Type 0 where
   pub opening : (flow deadline : ℕ) → refusalIn (openOf u flow deadline .answer) ≡ firstOf (openingGrounds u flow deadline)
+  pub closing : (flow : ℕ) → refusalIn (closeOf u flow .answer) ≡ firstOf (closingGrounds u flow)
   pub offering : (flow : ℕ) → refusalIn (offerOf u flow .answer) ≡ firstOf (offeringGrounds u flow)
   pub turning : (usable : Bool) → refusalIn (turnOf u usable .answer) ≡ firstOf (turnGrounds u)
 
 -- A refused call leaves the lane as it was.
 pub record RefusedSame (u : Urgent) (r : Refusal) : Type 0 where
   pub opening : (flow deadline : ℕ) → refusalIn (openOf u flow deadline .answer) ≡ some r → openOf u flow deadline .lane ≡ u
+  pub closing : (flow : ℕ) → refusalIn (closeOf u flow .answer) ≡ some r → closeOf u flow .lane ≡ u
   pub offering : (flow : ℕ) → refusalIn (offerOf u flow .answer) ≡ some r → offerOf u flow .lane ≡ u
   pub turning : (usable : Bool) → refusalIn (turnOf u usable .answer) ≡ some r → turnOf u usable .lane ≡ u
 
@@ -31,4 +33,4 @@ pub record RefusedSame (u : Urgent) (r : Refusal) : Type 0 where
 abbrev pub GroundsRise : Type 0
 GroundsRise =
     (u : Urgent) (flow deadline : ℕ)
-    → Rises (openingGrounds u flow deadline) × Rises (offeringGrounds u flow) × Rises (turnGrounds u)
+    → Rises (openingGrounds u flow deadline) × Rises (closingGrounds u flow) × Rises (offeringGrounds u flow) × Rises (turnGrounds u)

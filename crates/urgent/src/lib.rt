@@ -1,4 +1,5 @@
 // The urgent lane: sixteen flows with sixteen places each, and one cell sent in each open turn, the one with the earliest last slot.
+mod closing;
 mod offering;
 mod turning;
 
@@ -37,6 +38,7 @@ pub struct Urgent {
 pub enum Answer {
     Refused(Refusal),
     Opened,
+    Closed,
     // The cell's number and its last slot.
     Accepted(u64, Slot),
     // The flow and the number of the cell sent, and how many cells were missed.

@@ -15,6 +15,12 @@ enum-told c = search needs
 ok-requires : tie.Need-ok-requires
 ok-requires c κs = search needs
 
+enum-told-2 : tie.Need-enum-told-2
+enum-told-2 c = search needs
+
+ok-requires-2 : tie.Need-ok-requires-2
+ok-requires-2 c κs = search needs
+
 enum-known-answer-2 : tie.Need-enum-known-answer-2
 enum-known-answer-2 c = search needs
 
@@ -49,19 +55,25 @@ same-length-3 : tie.Need-same-length-3
 same-length-3 c = search needs
 
 returns-3 : tie.Need-returns-3
-returns-3 c = rw (c .before .before .before .before .before .answer2 .given .1) (c .before .before .ok-three .ensures)
+returns-3 c = rw (c .before .before .before .before .enum-told2 .given .1) (c .before .before .ok2 .ensures)
 
 same-length-4 : tie.Need-same-length-4
 same-length-4 c = search needs
 
 returns-4 : tie.Need-returns-4
-returns-4 c = rw (c .before .before .before .before .before .answer3 .given .1) (c .before .before .ok-three2 .ensures)
+returns-4 c = rw (c .before .before .before .before .before .answer2 .given .1) (c .before .before .ok-three .ensures)
 
 same-length-5 : tie.Need-same-length-5
 same-length-5 c = search needs
 
 returns-5 : tie.Need-returns-5
-returns-5 c = rw (c .before .before .before .before .before .answer4 .given .1) (c .before .before .ok-two .ensures)
+returns-5 c = rw (c .before .before .before .before .before .answer3 .given .1) (c .before .before .ok-three2 .ensures)
+
+same-length-6 : tie.Need-same-length-6
+same-length-6 c = search needs
+
+returns-6 : tie.Need-returns-6
+returns-6 c = rw (c .before .before .before .before .before .answer4 .given .1) (c .before .before .ok-two .ensures)
 
 pub fair-line-spec : {M : Type 1} → statement M
 fair-line-spec =
@@ -71,6 +83,8 @@ fair-line-spec =
     refusal-line-requires
     enum-told
     ok-requires
+    enum-told-2
+    ok-requires-2
     enum-known-answer-2
     ok-three-requires
     enum-known-answer-3
@@ -86,4 +100,6 @@ fair-line-spec =
     same-length-4
     returns-4
     same-length-5
-    returns-5)
+    returns-5
+    same-length-6
+    returns-6)

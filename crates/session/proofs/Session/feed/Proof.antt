@@ -50,11 +50,23 @@ open-requires-2 c κs = search needs
 enum-known-call-4 : tie.Need-enum-known-call-4 Inv-loop μ-loop
 enum-known-call-4 c = search needs
 
-offer-requires : tie.Need-offer-requires Inv-loop μ-loop
-offer-requires c κs = search needs
+close-requires : tie.Need-close-requires Inv-loop μ-loop
+close-requires c κs = search needs
 
 enum-known-call-5 : tie.Need-enum-known-call-5 Inv-loop μ-loop
 enum-known-call-5 c = search needs
+
+close-requires-2 : tie.Need-close-requires-2 Inv-loop μ-loop
+close-requires-2 c κs = search needs
+
+enum-known-call-6 : tie.Need-enum-known-call-6 Inv-loop μ-loop
+enum-known-call-6 c = search needs
+
+offer-requires : tie.Need-offer-requires Inv-loop μ-loop
+offer-requires c κs = search needs
+
+enum-known-call-7 : tie.Need-enum-known-call-7 Inv-loop μ-loop
+enum-known-call-7 c = search needs
 
 offer-requires-2 : tie.Need-offer-requires-2 Inv-loop μ-loop
 offer-requires-2 c κs = search needs
@@ -114,10 +126,12 @@ calls c =
     (⊎-elim (λ w. answered s (w .1 .given .1) (w .5) (w .6) (w .7) (ap (byFair s) (w .4 .ensures)))
     (⊎-elim (λ w. answered s (w .1 .given .1) (w .5) (w .6) (w .7) (ap (byUrgent s) (w .4 .ensures)))
     (⊎-elim (λ w. answered s (w .1 .given .1) (w .5) (w .6) (w .7) (ap (byFair s) (w .4 .ensures)))
+    (⊎-elim (λ w. answered s (w .1 .given .1) (w .5) (w .6) (w .7) (ap (byUrgent s) (w .4 .ensures)))
+    (⊎-elim (λ w. answered s (w .1 .given .1) (w .5) (w .6) (w .7) (ap (byFair s) (w .4 .ensures)))
     (⊎-elim (λ w. answered s (w .1 .given .1) (w .4) (w .5) (w .6) (ap (byUrgent s) (w .3 .ensures)))
     (⊎-elim (λ w. answered s (w .1 .given .1) (w .4) (w .5) (w .6) (ap (byUrgent s) (w .3 .ensures)))
     (⊎-elim (λ w. answered s (w .1 .given .1) (w .4) (w .5) (w .6) (ap (byFair s) (w .3 .ensures)))
-    (λ w. answered s (w .1 .given .1) (w .4) (w .5) (w .6) (ap (byFair s) (w .3 .ensures)))))))))
+    (λ w. answered s (w .1 .given .1) (w .4) (w .5) (w .6) (ap (byFair s) (w .3 .ensures)))))))))))
     (c .match2 .came)
 
 loop-again : tie.Need-loop-again Inv-loop μ-loop
@@ -159,8 +173,12 @@ feed-spec =
     enum-known-call-3
     open-requires-2
     enum-known-call-4
-    offer-requires
+    close-requires
     enum-known-call-5
+    close-requires-2
+    enum-known-call-6
+    offer-requires
+    enum-known-call-7
     offer-requires-2
     enum-told
     turn-requires

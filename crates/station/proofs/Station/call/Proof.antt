@@ -19,11 +19,23 @@ open-fair-requires c κs = search needs
 enum-known-call-3 : tie.Need-enum-known-call-3
 enum-known-call-3 c = search needs
 
-offer-cell-requires : tie.Need-offer-cell-requires
-offer-cell-requires c κs = search needs
+close-urgent-requires : tie.Need-close-urgent-requires
+close-urgent-requires c κs = search needs
 
 enum-known-call-4 : tie.Need-enum-known-call-4
 enum-known-call-4 c = search needs
+
+close-fair-requires : tie.Need-close-fair-requires
+close-fair-requires c κs = search needs
+
+enum-known-call-5 : tie.Need-enum-known-call-5
+enum-known-call-5 c = search needs
+
+offer-cell-requires : tie.Need-offer-cell-requires
+offer-cell-requires c κs = search needs
+
+enum-known-call-6 : tie.Need-enum-known-call-6
+enum-known-call-6 c = search needs
 
 offer-packet-requires : tie.Need-offer-packet-requires
 offer-packet-requires c κs = search needs
@@ -62,27 +74,35 @@ returns-2 c = rw (c .before .before .call2 .given .1) (c .open-fair .ensures)
 
 returns-3 : tie.Need-returns-3
 unfolding callOf
-returns-3 c = rw (c .before .before .call3 .given .1) (c .offer-cell .ensures)
+returns-3 c = rw (c .before .before .call3 .given .1) (c .close-urgent .ensures)
 
 returns-4 : tie.Need-returns-4
 unfolding callOf
-returns-4 c = rw (c .before .before .call4 .given .1) (c .offer-packet .ensures)
+returns-4 c = rw (c .before .before .call4 .given .1) (c .close-fair .ensures)
 
 returns-5 : tie.Need-returns-5
 unfolding callOf
-returns-5 c = rw (c .before .enum-told .given .1) (c .turn .ensures)
+returns-5 c = rw (c .before .before .call5 .given .1) (c .offer-cell .ensures)
 
 returns-6 : tie.Need-returns-6
 unfolding callOf
-returns-6 c = rw (c .before .enum-told2 .given .1) (c .turn2 .ensures)
+returns-6 c = rw (c .before .before .call6 .given .1) (c .offer-packet .ensures)
 
 returns-7 : tie.Need-returns-7
 unfolding callOf
-returns-7 c = rw (c .before .enum-told3 .given .1) (c .begin .ensures)
+returns-7 c = rw (c .before .enum-told .given .1) (c .turn .ensures)
 
 returns-8 : tie.Need-returns-8
 unfolding callOf
-returns-8 c = rw (c .before .enum-told4 .given .1) (c .end .ensures)
+returns-8 c = rw (c .before .enum-told2 .given .1) (c .turn2 .ensures)
+
+returns-9 : tie.Need-returns-9
+unfolding callOf
+returns-9 c = rw (c .before .enum-told3 .given .1) (c .begin .ensures)
+
+returns-10 : tie.Need-returns-10
+unfolding callOf
+returns-10 c = rw (c .before .enum-told4 .given .1) (c .end .ensures)
 
 pub call-spec : {M : Type 1} → statement M
 call-spec =
@@ -93,8 +113,12 @@ call-spec =
     enum-known-call-2
     open-fair-requires
     enum-known-call-3
-    offer-cell-requires
+    close-urgent-requires
     enum-known-call-4
+    close-fair-requires
+    enum-known-call-5
+    offer-cell-requires
+    enum-known-call-6
     offer-packet-requires
     enum-told
     turn-requires
@@ -111,4 +135,6 @@ call-spec =
     returns-5
     returns-6
     returns-7
-    returns-8)
+    returns-8
+    returns-9
+    returns-10)
