@@ -96,6 +96,15 @@ public:
         out.line("ok");
     }
 
+    void close(std::uint64_t flow, Output& out) {
+        if (flow >= kFlows) return out.line("no", 1u);
+        Flow& f = flows_[flow];
+        if (f.deadline == 0) return out.line("no", 2u);
+        if (f.waiting != 0) return out.line("no", 12u);
+        f.deadline = 0;
+        out.line("ok");
+    }
+
     void offer(std::uint64_t flow, Output& out) {
         if (flow >= kFlows) return out.line("no", 1u);
         Flow& f = flows_[flow];
@@ -155,6 +164,15 @@ public:
         if (flows_[flow].charge != 0) return out.line("no", 3u);
         if (weight < 1 || weight > kMostWeight) return out.line("no", 4u);
         flows_[flow].charge = kUnitsPerByte / weight;
+        out.line("ok");
+    }
+
+    void close(std::uint64_t flow, Output& out) {
+        if (flow >= kFlows) return out.line("no", 1u);
+        Flow& f = flows_[flow];
+        if (f.charge == 0) return out.line("no", 2u);
+        if (f.waiting != 0 || (in_service_ && in_service_->flow == flow)) return out.line("no", 12u);
+        f.charge = 0;
         out.line("ok");
     }
 
@@ -245,6 +263,14 @@ private:
         case 'F':
             if (!take_number(rest, a) || !take_number(rest, b) || !rest.empty()) return false;
             fair_.open(a, b, out);
+            return true;
+        case 'C':
+            if (!take_number(rest, a) || !rest.empty()) return false;
+            urgent_.close(a, out);
+            return true;
+        case 'c':
+            if (!take_number(rest, a) || !rest.empty()) return false;
+            fair_.close(a, out);
             return true;
         case 'u':
             if (!take_number(rest, a) || !rest.empty()) return false;

@@ -83,7 +83,8 @@ enum {
     TUHKELIAR_IDLE = 4,            /* missed */
     TUHKELIAR_PACKET_ACCEPTED = 5, /* number, start, finish */
     TUHKELIAR_BEGUN = 6,           /* flow, number, length, start */
-    TUHKELIAR_ENDED = 7            /* flow, number, length */
+    TUHKELIAR_ENDED = 7,           /* flow, number, length */
+    TUHKELIAR_CLOSED = 8           /* nothing */
 };
 
 typedef struct {
@@ -106,6 +107,10 @@ tuhkeliar_station tuhkeliar_fresh(void);
 /* Opens a flow with a deadline in slots, or with a weight. */
 tuhkeliar_called tuhkeliar_open_urgent(tuhkeliar_station station, uint64_t flow, uint64_t deadline);
 tuhkeliar_called tuhkeliar_open_fair(tuhkeliar_station station, uint64_t flow, uint64_t weight);
+
+/* Closes a flow; refused while something of it waits or is in service. Its numbers and last finish go on when it is opened again. */
+tuhkeliar_called tuhkeliar_close_urgent(tuhkeliar_station station, uint64_t flow);
+tuhkeliar_called tuhkeliar_close_fair(tuhkeliar_station station, uint64_t flow);
 
 /* Offers a cell, or a packet of this length in bytes. */
 tuhkeliar_called tuhkeliar_offer_cell(tuhkeliar_station station, uint64_t flow);

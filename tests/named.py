@@ -6,9 +6,14 @@ def text(*lines):
     return "".join(line + "\n" for line in lines).encode("ascii")
 
 
+# Commands and their replies, as the input and the output of a session.
+def paired(*pairs):
+    return text(*[left for left, _ in pairs]), text(*[right for _, right in pairs])
+
+
 # The one whole session of the rules: its input and its output.
 def worked():
-    pairs = [
+    return paired(
         ("U 0 3", "ok"),
         ("U 1 1", "ok"),
         ("u 0", "ok 0 2"),
@@ -21,8 +26,7 @@ def worked():
         ("e", "ok 0 0"),
         ("u 9", "no 2"),
         ("b", "no 9"),
-    ]
-    return text(*[left for left, _ in pairs]), text(*[right for _, right in pairs])
+    )
 
 
 # The cases to be checked by hand that a session can reach.
@@ -108,27 +112,40 @@ def malformed():
     return {
         "leading zeros": [
             b"u 00", b"u 01", b"U 00 3", b"U 0 03", b"F 0 01", b"f 0 0100", b"f 00 1", b"u 0000000000", b"u 0000000001",
+            b"C 00", b"c 01",
         ],
         "numbers too large": [
             b"u 4294967296", b"u 9999999999", b"U 0 4294967296", b"F 4294967296 1", b"f 0 9999999999",
-            b"f 0 4294967297",
+            b"f 0 4294967297", b"C 4294967296", b"c 9999999999",
         ],
-        "eleven digits": [b"u 10000000000", b"u 00000000000", b"f 0 42949672950", b"U 18446744073709551616 1"],
-        "two blanks": [b"u  0", b"U  0 3", b"U 0  3", b"f 0  100", b"F  0  1"],
-        "trailing blank": [b"t ", b"x ", b"b ", b"e ", b"u 0 ", b"U 1 3 ", b"f 0 1 ", b"t  "],
-        "leading blank": [b" t", b" x", b" b", b" e", b" u 0", b" U 1 3", b" f 0 1", b"  t"],
+        "eleven digits": [
+            b"u 10000000000", b"u 00000000000", b"f 0 42949672950", b"U 18446744073709551616 1", b"C 10000000000",
+            b"c 42949672950",
+        ],
+        "two blanks": [b"u  0", b"U  0 3", b"U 0  3", b"f 0  100", b"F  0  1", b"C  0", b"c  0"],
+        "trailing blank": [b"t ", b"x ", b"b ", b"e ", b"u 0 ", b"U 1 3 ", b"f 0 1 ", b"t  ", b"C 0 ", b"c 0 "],
+        "leading blank": [b" t", b" x", b" b", b" e", b" u 0", b" U 1 3", b" f 0 1", b"  t", b" C 0", b" c 0"],
         "blanks only": [b" ", b"  ", b" " * 31, b" " * 32, b" " * 33],
-        "tabs": [b"u\t0", b"U 0\t3", b"\tt", b"t\t", b"\t", b"f 0\t1", b"u \t0"],
-        "carriage returns": [b"t\r", b"u 0\r", b"U 1 3\r", b"\r", b"\rt", b"b\re", b"e\r\r"],
+        "tabs": [b"u\t0", b"U 0\t3", b"\tt", b"t\t", b"\t", b"f 0\t1", b"u \t0", b"C\t0", b"c 0\t"],
+        "carriage returns": [b"t\r", b"u 0\r", b"U 1 3\r", b"\r", b"\rt", b"b\re", b"e\r\r", b"C 0\r", b"c 0\r"],
         "other spaces": [b"u\x0b0", b"u\x0c0", b"u\xa00", b"u\xc2\xa00", b"u\x850", b"t\x1a"],
         "NUL bytes": [b"\0", b"t\0", b"\0t", b"u\x000", b"u 0\0", b"U 1\x003", b"f 0 1\0", b"\0" * 32],
         "high bytes": [
             b"\x80", b"\xff", b"t\xff", b"\xf4", b"u 0\x80", b"u \xb0", b"\xef\xbb\xbft", b"u \xd9\xa0", b"u \xc2\xb2",
         ],
         "case": [b"T", b"X", b"B", b"E", b"U 0", b"F 0", b"u 0 3", b"T 0"],
-        "missing fields": [b"U", b"F", b"u", b"f", b"U 0", b"F 0", b"f 0", b"u ", b"U ", b"U 0 ", b"f 0 ", b"F  1"],
-        "extra fields": [b"t 0", b"x 0", b"b 0", b"e 0", b"u 0 0", b"U 1 3 0", b"F 1 1 1", b"f 0 1 1", b"t t", b"b e"],
-        "fields run together": [b"u0", b"U0 3", b"U03", b"f0 1", b"tt", b"be", b"ub", b"tx", b"uu 0", b"u 0u", b"t0"],
+        "missing fields": [
+            b"U", b"F", b"u", b"f", b"U 0", b"F 0", b"f 0", b"u ", b"U ", b"U 0 ", b"f 0 ", b"F  1",
+            b"C", b"c", b"C ", b"c ",
+        ],
+        "extra fields": [
+            b"t 0", b"x 0", b"b 0", b"e 0", b"u 0 0", b"U 1 3 0", b"F 1 1 1", b"f 0 1 1", b"t t", b"b e",
+            b"C 0 0", b"c 0 1",
+        ],
+        "fields run together": [
+            b"u0", b"U0 3", b"U03", b"f0 1", b"tt", b"be", b"ub", b"tx", b"uu 0", b"u 0u", b"t0",
+            b"C0", b"c0", b"Cc 0",
+        ],
         "other words": [
             b"a", b"n", b"no 11", b"ok", b"sent 1 0 missed 0", b"idle missed 0", b"#", b"quit", b"0", b"1 2",
         ],
@@ -164,6 +181,7 @@ def ends():
         "an empty line at the end": opened + b"t\n\n",
         "no line end at the end": opened + b"u 0\nt",
         "no line end, one number": opened + b"u 0",
+        "no line end, a closing": opened + b"C 0\nc 0",
         "no line end, no command": opened + b"u 0 ",
         "no line end, one blank": b" ",
         "no line end, one NUL": b"\0",
@@ -176,6 +194,9 @@ def ends():
         "every single byte": b"\n".join(bytes([byte]) for byte in range(256)) + b"\n",
         "every byte after a command": opened + b"".join(b"t" + bytes([byte]) + b"\n" for byte in range(256)),
         "every byte for a blank": opened + b"".join(b"u" + bytes([byte]) + b"0\n" for byte in range(256)),
+        "every byte for a blank of a closing": opened + b"".join(
+            word + bytes([byte]) + b"0\n" for word in (b"C", b"c") for byte in range(256)
+        ),
         "every byte for a digit": opened + b"".join(b"f 0 1" + bytes([byte]) + b"\n" for byte in range(256)),
         "largest field": b"U 4294967295 1\nU 1 4294967295\nF 4294967295 4294967295\nu 4294967295\nf 0 4294967295\n",
         "a long input of short lines": opened + b"u 0\nt\nf 0 7\nb\ne\n" * 8000 + b"t",

@@ -1,11 +1,8 @@
-"""A plain model of the station's session program and of its admission test.
+"""A plain model of the station's session program.
 
-    reference.py session   < commands > replies
-    reference.py admission < lists    > answers
+    reference.py < commands > replies
 
-For admission each line is one list of declarations, as blank-separated numbers
-B P D B P D ...; an empty line is the empty list. All is written for reading:
-what waits is a plain list, tags are exact fractions of a byte at weight 1.
+All is written for reading: what waits is a plain list, tags are exact fractions of a byte at weight 1.
 """
 
 import sys
@@ -16,7 +13,7 @@ PLACES = 16                    # of each flow, in each lane
 UNITS_PER_BYTE = 720720        # as tags are written
 TAG_END = 4611686018427387904  # no finish tag and no packet number passes this
 SLOT_END = 4000000000          # no turn is had at this slot
-LAST_T = 4096                  # the largest deadline, and the last t admission looks at
+LAST_DEADLINE = 4096           # of a flow of the urgent lane
 
 
 # A call the station turns down; it carries its number and no other fact.
@@ -68,13 +65,20 @@ class UrgentLane:
         self.accepted = {}
         self.waiting = []
 
-    # The flow may send from here on, each cell within `deadline` slots.
+    # The flow may send until it is closed, each cell within `deadline` slots.
     def open(self, flow, deadline):
         refuse(1, flow > 15)
         refuse(3, flow in self.deadline)
-        refuse(4, not 1 <= deadline <= LAST_T)
+        refuse(4, not 1 <= deadline <= LAST_DEADLINE)
         self.deadline[flow] = deadline
-        self.accepted[flow] = 0
+        self.accepted.setdefault(flow, 0)
+
+    # The flow may send no more until it is opened again; its numbers then go on.
+    def close(self, flow):
+        refuse(1, flow > 15)
+        refuse(2, flow not in self.deadline)
+        refuse(12, any(cell.flow == flow for cell in self.waiting))
+        del self.deadline[flow]
 
     # A cell of the flow comes to wait; the answer is the cell.
     def offer(self, flow):
@@ -111,14 +115,22 @@ class FairLane:
         self.in_service = None
         self.largest_ended = Fraction(0)
 
-    # The flow may send from here on, with this share of the link.
+    # The flow may send until it is closed, with this share of the link.
     def open(self, flow, weight):
         refuse(1, flow > 15)
         refuse(3, flow in self.weight)
         refuse(4, not 1 <= weight <= 16)
         self.weight[flow] = weight
-        self.last_finish[flow] = Fraction(0)
-        self.accepted[flow] = 0
+        self.last_finish.setdefault(flow, Fraction(0))
+        self.accepted.setdefault(flow, 0)
+
+    # The flow may send no more until it is opened again; its numbers and its last finish then go on.
+    def close(self, flow):
+        refuse(1, flow > 15)
+        refuse(2, flow not in self.weight)
+        refuse(12, any(packet.flow == flow for packet in self.waiting))
+        refuse(12, self.in_service is not None and self.in_service.flow == flow)
+        del self.weight[flow]
 
     # A packet of the flow comes to wait; the answer is the packet with its tags.
     def offer(self, flow, length):
@@ -175,6 +187,12 @@ def reply(urgent, fair, line):
         case [b"F", flow, weight]:
             fair.open(flow, weight)
             return "ok"
+        case [b"C", flow]:
+            urgent.close(flow)
+            return "ok"
+        case [b"c", flow]:
+            fair.close(flow)
+            return "ok"
         case [b"u", flow]:
             cell = urgent.offer(flow)
             return f"ok {cell.number} {cell.last}"
@@ -212,38 +230,5 @@ def session(data: bytes) -> bytes:
     return "".join(replies).encode("ascii")
 
 
-# Whether the declared flows can all be served in time: `admitted`, `fails T` or `no 4`.
-def admission(declarations) -> str:
-    if len(declarations) > 16:
-        return "no 4"
-    for burst, period, deadline in declarations:
-        if period < 1 or 5040 % period != 0 or not (1 <= burst <= 16 and 1 <= deadline <= LAST_T):
-            return "no 4"
-    # B + floor((t - D) / P) is B at t = D and grows by one at D + P, D + 2P, ...
-    growth = [0] * (LAST_T + 1)
-    for burst, period, deadline in declarations:
-        growth[deadline] += burst
-        for t in range(deadline + period, LAST_T + 1, period):
-            growth[t] += 1
-    demand = 0
-    for t in range(1, LAST_T + 1):
-        demand += growth[t]
-        if demand > t:
-            return f"fails {t}"
-    return "admitted"
-
-
-# The declarations on one line of an admission input.
-def declarations_of(line):
-    numbers = iter([int(field) for field in line.split()])
-    return list(zip(numbers, numbers, numbers, strict=True))
-
-
 if __name__ == "__main__":
-    if sys.argv[1:] == ["session"]:
-        sys.stdout.buffer.write(session(sys.stdin.buffer.read()))
-    elif sys.argv[1:] == ["admission"]:
-        for line in lines_of(sys.stdin.buffer.read()):
-            print(admission(declarations_of(line)))
-    else:
-        sys.exit("usage: reference.py session|admission")
+    sys.stdout.buffer.write(session(sys.stdin.buffer.read()))

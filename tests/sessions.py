@@ -12,10 +12,11 @@ import named
 
 SMALL_BAD_LINES = [line for lines in named.malformed().values() for line in lines if len(line) <= 40]
 DEADLINES = [1, 1, 2, 2, 3, 3, 4, 5, 8, 12, 12, 20, 20, 40, 40, 100, 300, 1000, 4095, 4096]
+ABOVE = [16, 17, 99, 255, 256, 65536, 4294967295]
 LENGTHS = [1, 2, 3, 7, 40, 64, 64, 100, 100, 576, 1499, 1500]
 
 
-# One random session, its commands drawn in stretches of differing kinds.
+# One random session, its commands drawn in stretches of differing kinds, each kind in every round.
 class RandomSession:
     def __init__(self, seed):
         self.rng = random.Random(seed)
@@ -43,7 +44,7 @@ class RandomSession:
     # A flow number: mostly one in use, now and then another or one above 15.
     def flow(self, used):
         if self.chance(2):
-            return self.rng.choice([16, 17, 99, 255, 256, 65536, 4294967295])
+            return self.rng.choice(ABOVE)
         if self.chance(4):
             return self.rng.randrange(16)
         return self.rng.choice(used)
@@ -61,9 +62,9 @@ class RandomSession:
         bad = self.chance(12)
         self.add(f"F {flow} {self.rng.choice([0, 17, 257, 4294967295]) if bad else self.rng.randint(1, 16)}")
 
-    # One command of any kind.
+    # One command of any kind, and after a closing mostly the opening again.
     def any_command(self):
-        kind = self.rng.choices("ufgtxbeUF", [30, 16, 8, 20, 7, 13, 13, 1, 1])[0]
+        kind = self.rng.choices("ufgtxbeUFCc", [30, 16, 8, 20, 7, 13, 13, 1, 1, 2, 2])[0]
         if kind == "u":
             self.add(f"u {self.flow(self.urgent)}")
         elif kind == "f":
@@ -74,6 +75,16 @@ class RandomSession:
             self.open_urgent(self.flow(range(16)))
         elif kind == "F":
             self.open_fair(self.flow(range(16)))
+        elif kind == "C":
+            flow = self.flow(self.urgent)
+            self.add(f"C {flow}")
+            if self.chance(80):
+                self.open_urgent(flow)
+        elif kind == "c":
+            flow = self.flow(self.fair)
+            self.add(f"c {flow}")
+            if self.chance(80):
+                self.open_fair(flow)
         else:
             self.add(kind)
 
@@ -108,7 +119,7 @@ class RandomSession:
 
     # Begins and ends by turns, often until none waits, and then a few new packets.
     def drain_fair(self):
-        for _ in range(self.rng.choice([10, 40, 150, 150])):
+        for _ in range(self.rng.choice([10, 40, 80, 150])):
             self.add("b")
             if self.chance(3):
                 self.add("b")
@@ -122,6 +133,36 @@ class RandomSession:
             if self.chance(50):
                 self.add("b")
                 self.add("e")
+
+    # Flows are closed before a cell comes, while it waits and after a turn, and opened again; the last is above 15.
+    def rewire_urgent(self):
+        for flow in [*self.rng.sample(range(16), self.rng.randint(6, 9)), self.rng.choice(ABOVE)]:
+            self.add(f"C {flow}")
+            self.open_urgent(flow)
+            for command in [f"u {flow}", "x" if self.chance(30) else "t", f"u {flow}"]:
+                self.add(command)
+                if self.chance(80):
+                    self.add(f"C {flow}")
+            self.open_urgent(flow)
+            self.add(f"u {flow}")
+
+    # After some begins and ends, flows are closed before a packet comes, while it waits, in service and after its end, and
+    # opened again; the last is above 15.
+    def rewire_fair(self):
+        for _ in range(self.rng.choice([1, 10, 40])):
+            self.add("b")
+            self.add("e")
+        for flow in [*self.rng.sample(range(16), self.rng.randint(6, 9)), self.rng.choice(ABOVE)]:
+            self.add("b")
+            self.add(f"c {flow}")
+            self.add("e")
+            self.open_fair(flow)
+            for command in [f"f {flow} {self.length()}", "b", "e", f"f {flow} {self.length()}"]:
+                self.add(command)
+                if self.chance(80):
+                    self.add(f"c {flow}")
+            self.open_fair(flow)
+            self.add(f"f {flow} {self.length()}")
 
     # The same command again and again.
     def one_kind(self):
@@ -137,11 +178,12 @@ class RandomSession:
         for flow in self.fair:
             self.open_fair(flow)
         stretches = [
-            self.mixture, self.mixture, self.mixture, self.fill_urgent, self.fill_fair,
-            self.level, self.drain_urgent, self.drain_fair, self.one_kind,
+            self.mixture, self.mixture, self.mixture, self.fill_urgent, self.fill_urgent, self.fill_fair, self.fill_fair,
+            self.level, self.drain_urgent, self.drain_fair, self.rewire_urgent, self.rewire_fair, self.one_kind,
         ]
         while len(self.lines) < count:
-            self.rng.choice(stretches)()
+            for stretch in self.rng.sample(stretches, len(stretches)):
+                stretch()
         data = b"".join(line + b"\n" for line in self.lines[:count])
         return data[:-1] if self.chance(25) and not data.endswith(b"\n\n") else data
 

@@ -12,6 +12,8 @@ static void play(char command, uint64_t flow, uint64_t figure) {
     switch (command) {
     case 'U': called = tuhkeliar_open_urgent(station, flow, figure); break;
     case 'F': called = tuhkeliar_open_fair(station, flow, figure); break;
+    case 'C': called = tuhkeliar_close_urgent(station, flow); break;
+    case 'c': called = tuhkeliar_close_fair(station, flow); break;
     case 'u': called = tuhkeliar_offer_cell(station, flow); break;
     case 'f': called = tuhkeliar_offer_packet(station, flow, figure); break;
     case 't': called = tuhkeliar_turn(station, true); break;
@@ -24,7 +26,8 @@ static void play(char command, uint64_t flow, uint64_t figure) {
 static void tell(tuhkeliar_answer t) {
     switch (t.kind) {
     case TUHKELIAR_REFUSED: printf("no %" PRIu64 "\n", t.a); break;
-    case TUHKELIAR_OPENED: printf("ok\n"); break;
+    case TUHKELIAR_OPENED:
+    case TUHKELIAR_CLOSED: printf("ok\n"); break;
     case TUHKELIAR_CELL_ACCEPTED: printf("ok %" PRIu64 " %" PRIu64 "\n", t.a, t.b); break;
     case TUHKELIAR_SENT: printf("sent %" PRIu64 " %" PRIu64 " missed %" PRIu64 "\n", t.a, t.b, t.c); break;
     case TUHKELIAR_IDLE: printf("idle missed %" PRIu64 "\n", t.a); break;

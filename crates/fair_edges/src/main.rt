@@ -23,6 +23,9 @@ fn show(answer: Answer) {
         Answer::Opened => {
             io::write_all(STDOUT_FILENO, b"ok");
         }
+        Answer::Closed => {
+            io::write_all(STDOUT_FILENO, b"closed");
+        }
         Answer::Accepted(n, start, finish) => {
             io::write_all(STDOUT_FILENO, b"ok");
             number(n);
@@ -49,6 +52,15 @@ fn show(answer: Answer) {
 // Opens a flow, writes the answer and hands the lane on.
 fn open(lane: Fair, flow: u64, weight: u64) -> Fair {
     let done = lane.open(flow, weight);
+    let answer = done.answer;
+    show(answer);
+    let after = done.lane;
+    after
+}
+
+// Closes a flow, writes the answer and hands the lane on.
+fn close(lane: Fair, flow: u64) -> Fair {
+    let done = lane.close(flow);
     let answer = done.answer;
     show(answer);
     let after = done.lane;
@@ -166,13 +178,24 @@ fn worked() {
     begin(end(begin(begin(offer(m, 0, 1)))));
 }
 
+// A flow closed and opened again, and what keeps it from being closed.
+fn closings() {
+    case(b"a flow closed and opened again");
+    let mut lane = open(open(Fair::fresh(), 0, 1), 1, 1);
+    lane = close(offer(offer(lane, 0, 100), 1, 1), 0);
+    lane = end(close(close(begin(lane), 0), 1));
+    lane = offer(close(close(lane, 0), 0), 0, 1);
+    begin(offer(open(lane, 0, 2), 0, 100));
+}
+
 // Numbers that no flow, weight or packet has.
 fn bad_numbers() {
     case(b"flow numbers");
     let mut lane = open(open(Fair::fresh(), 16, 1), 18446744073709551615, 0);
     lane = offer(offer(lane, 16, 1), 18446744073709551615, 0);
+    lane = close(close(lane, 16), 18446744073709551615);
     case(b"a shut flow");
-    lane = offer(lane, 1, 0);
+    lane = close(offer(lane, 1, 0), 1);
     case(b"lengths");
     lane = open(open(lane, 15, 1), 15, 0);
     lane = offer(offer(lane, 15, 0), 15, 1501);
@@ -198,6 +221,11 @@ fn unreachable_states() {
     case(b"weights that no flow has");
     offer(written(5, 18446744073709551615, 0, 0), 0, 1500);
     offer(written(5, 0, 0, 7), 0, 1500);
+    case(b"a service busy with a shut flow");
+    close(close(open(serving(5, 9), 2, 1), 3), 2);
+    case(b"numbers and tags at their last, kept through a closing");
+    let last = written(0, 1, 4611686018427387904, 4611686018427342859);
+    offers(open(close(last, 0), 0, 16), 0, 2);
     case(b"the largest finish, not the last");
     offer(end(serving(5, 9)), 0, 1);
     offer(end(serving(9, 5)), 0, 1);
@@ -209,6 +237,7 @@ fn unreachable_states() {
 // All of them, a line for each answer.
 fn main() {
     worked();
+    closings();
     bad_numbers();
     unreachable_states();
 }

@@ -5,7 +5,7 @@ use Prim.Native.Nat.{ℕ, zero-le}
 use native.Mathlib.Omega.{arith}
 use lib.ListN.{getD-replicate}
 use Rattle.places.specs.Places.{count}
-use Rattle.places.specs.Marks.{opens, closes, openIn, inForce}
+use Rattle.places.specs.Marks.{openIn, inForce}
 use Rattle.places.proofs.CountAt.{at-replicate}
 use Rattle.tags.specs.declared.Flow.{Flow}
 use Rattle.tags.specs.Tags.{freePacket, shutFlow}

@@ -1,7 +1,7 @@
 -- What every call keeps: the lane is what the calls and answers tell. Time, flows and numbers agree; the held places are the
 -- waiting cells; and the cells sent are accepted cells. Here: an opening, a closing and an accepted offer keep it.
 use mathlib.Core.Path.{_≡_, refl, sym, ap, _∙_}
-use mathlib.Core.Bool.{Bool, true, false, cond, _&&_, _||_, true≢false}
+use mathlib.Core.Bool.{Bool, true, false, _&&_, _||_, true≢false}
 use mathlib.Core.List.{List, [], _∷_}
 use Prim.Native.Nat.{ℕ, _+_, _-_, _*_, _%_, _^_, _≤_, _<_}
 use native.Mathlib.Omega.{arith}
@@ -11,7 +11,7 @@ use lib.ListN.{length, getD, set, length-set}
 use Rattle.units.specs.Limits.{placeCount, slotLimit, badDeadline}
 use Rattle.units.proofs.Limits.{inside}
 use Rattle.places.specs.Places.{bit, count, countAt, firstFree, placesOf}
-use Rattle.places.specs.Marks.{opens, closes, openIn, inForce}
+use Rattle.places.specs.Marks.{opens, closes, openIn}
 use Rattle.places.proofs.Count.{count-le, count-le-length, and-le}
 use Rattle.places.proofs.CountAt.{own-places}
 use Rattle.places.proofs.Free.{part-length}

@@ -22,6 +22,9 @@ fn show(answer: Answer) {
         Answer::Opened => {
             io::write_all(STDOUT_FILENO, b"ok");
         }
+        Answer::Closed => {
+            io::write_all(STDOUT_FILENO, b"closed");
+        }
         Answer::Accepted(n, last) => {
             io::write_all(STDOUT_FILENO, b"ok");
             number(n);
@@ -45,6 +48,14 @@ fn show(answer: Answer) {
 // Each call writes its answer and hands the lane on.
 fn open(lane: Urgent, flow: u64, deadline: u64) -> Urgent {
     let done = lane.open(flow, deadline);
+    let answer = done.answer;
+    show(answer);
+    let after = done.lane;
+    after
+}
+
+fn close(lane: Urgent, flow: u64) -> Urgent {
+    let done = lane.close(flow);
     let answer = done.answer;
     show(answer);
     let after = done.lane;
@@ -130,15 +141,25 @@ fn worked() {
     offer(turn(h, false), 0);
 }
 
+fn closings() {
+    case(b"a flow closed and opened again");
+    let mut lane = close(offer(open(Urgent::fresh(), 0, 2), 0), 0);
+    lane = close(close(turn(lane, true), 0), 0);
+    lane = offer(open(offer(lane, 0), 0, 5), 0);
+    case(b"its last cell missed");
+    close(turn(close(offer(open(lane, 1, 1), 1), 1), false), 1);
+}
+
 fn bad_numbers() {
     case(b"flow numbers");
     let mut lane = open(open(Urgent::fresh(), 16, 1), 18446744073709551615, 0);
     lane = offer(offer(lane, 16), 18446744073709551615);
+    lane = close(close(lane, 16), 18446744073709551615);
     case(b"deadlines");
     lane = open(open(open(lane, 0, 0), 0, 4097), 0, 18446744073709551615);
     lane = open(open(lane, 0, 4096), 0, 4096);
     case(b"a shut flow");
-    offer(lane, 1);
+    close(offer(lane, 1), 1);
 }
 
 fn unreachable_states() {
@@ -164,10 +185,19 @@ fn unreachable_states() {
     );
     case(b"no deadline");
     offer(written(0, 0, 0, 1, 1), 0);
+    case(b"a shut flow with cells waiting");
+    let mut shut = written(0, 3, 18446744073709551615, 1, 1);
+    shut.flows[0] = Flow {
+        opened: false,
+        deadline: 3,
+        next: 18446744073709551615,
+    };
+    offer(open(close(shut, 0), 0, 4), 0);
 }
 
 fn main() {
     worked();
+    closings();
     bad_numbers();
     unreachable_states();
 }
