@@ -10,6 +10,7 @@ use Rattle.units.specs.declared.Refusal.{Refusal}
 use Rattle.units.specs.declared.Refusal.the-variants.{NothingWaits}
 use Rattle.places.specs.Places.{placesOf, flowOf, firstFree}
 use Rattle.places.specs.Choice.{Choice, nothing, at}
+use Rattle.tags.specs.declared.Flow.{Flow}
 use Rattle.tags.specs.declared.Packet.{Packet}
 use Rattle.tags.specs.Tags.{freePacket, isHeld}
 use Rattle.tags.specs.Grounds.{openingGrounds, closingGrounds, offeringGrounds}
@@ -27,18 +28,16 @@ abbrev pub unless : Fair → Option Refusal → Done → Done
 unless u none done = done
 unless u (some r) done = refused u r
 
+-- the lane with another record of a flow
+abbrev pub withFlow : Fair → ℕ → Flow → Fair
+withFlow u flow x =
+    record { time = u .time; ended = u .ended; service = u .service; flows = set (u .flows) flow x; packets = u .packets }
+
 -- opening: the flow's numbers and its last finish go on where they stood
 abbrev pub opened : Fair → ℕ → ℕ → Done
 opened u flow weight =
     record {
-      lane =
-          record {
-            time = u .time;
-            ended = u .ended;
-            service = u .service;
-            flows = set (u .flows) flow (record { opened = true; weight = weight; next = flowAt u flow .next; finish = flowAt u flow .finish });
-            packets = u .packets;
-          };
+      lane = withFlow u flow (record { opened = true; weight = weight; next = flowAt u flow .next; finish = flowAt u flow .finish });
       answer = Opened;
     }
 
@@ -51,15 +50,8 @@ abbrev pub closed : Fair → ℕ → Done
 closed u flow =
     record {
       lane =
-          record {
-            time = u .time;
-            ended = u .ended;
-            service = u .service;
-            flows =
-                set (u .flows) flow
-                (record { opened = false; weight = flowAt u flow .weight; next = flowAt u flow .next; finish = flowAt u flow .finish });
-            packets = u .packets;
-          };
+          withFlow u flow
+          (record { opened = false; weight = flowAt u flow .weight; next = flowAt u flow .next; finish = flowAt u flow .finish });
       answer = Closed;
     }
 

@@ -10,6 +10,7 @@ use Rattle.units.specs.declared.Refusal.{Refusal}
 use Rattle.places.specs.Places.{count, placesOf, flowOf, firstFree, clearedAll}
 use Rattle.places.specs.Choice.{Choice, nothing, at, leastHeld}
 use Rattle.urgent.specs.declared.Cell.{Cell}
+use Rattle.urgent.specs.declared.Flow.{Flow}
 use Rattle.urgent.specs.declared.Urgent.{Urgent}
 use Rattle.urgent.specs.declared.Done.{Done}
 use Rattle.urgent.specs.declared.Answer.{Answer}
@@ -25,18 +26,14 @@ abbrev pub unless : Urgent → Option Refusal → Done → Done
 unless u none done = done
 unless u (some r) done = refused u r
 
+-- the lane with another record of a flow
+abbrev pub withFlow : Urgent → ℕ → Flow → Urgent
+withFlow u flow x = record { now = u .now; flows = set (u .flows) flow x; cells = u .cells }
+
 -- opening: the flow's numbers go on where they stood
 abbrev pub opened : Urgent → ℕ → ℕ → Done
 opened u flow deadline =
-    record {
-      lane =
-          record {
-            now = u .now;
-            flows = set (u .flows) flow (record { opened = true; deadline = deadline; next = flowAt u flow .next });
-            cells = u .cells;
-          };
-      answer = Opened;
-    }
+    record { lane = withFlow u flow (record { opened = true; deadline = deadline; next = flowAt u flow .next }); answer = Opened }
 
 -- what opening a flow with a deadline gives
 unfoldable pub openOf : Urgent → ℕ → ℕ → Done
@@ -46,12 +43,7 @@ openOf u flow deadline = unless u (firstOf (openingGrounds u flow deadline)) (op
 abbrev pub closed : Urgent → ℕ → Done
 closed u flow =
     record {
-      lane =
-          record {
-            now = u .now;
-            flows = set (u .flows) flow (record { opened = false; deadline = flowAt u flow .deadline; next = flowAt u flow .next });
-            cells = u .cells;
-          };
+      lane = withFlow u flow (record { opened = false; deadline = flowAt u flow .deadline; next = flowAt u flow .next });
       answer = Closed;
     }
 
