@@ -68,13 +68,13 @@ inService [] = false
 inService (began f n l s p ∷ ms) = true
 inService (ceased f n l p e w ∷ ms) = false
 
--- it is a packet of this flow
+-- a packet of this flow is in service
 abbrev pub serving : List Moment → ℕ → Bool
 serving [] flow = false
 serving (began f n l s p ∷ ms) flow = eqb f flow
 serving (ceased f n l p e w ∷ ms) flow = false
 
--- it is this packet
+-- this packet is in service
 abbrev pub isServed : List Moment → Packet → Bool
 isServed [] a = false
 isServed (began f n l s p ∷ ms) a = eqb f (a .flow) && eqb n (a .number)
