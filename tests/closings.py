@@ -131,6 +131,23 @@ def closings():
             ("c 7", "ok"), ("F 7 2", "ok"),
             *[("f 7 2", f"ok {16 + k} {(16 + k) * 720720} {(17 + k) * 720720}") for k in every], ("f 7 2", "no 5"),
         ),
+        "a cell in each place keeps its flow open": paired(
+            ("U 8 4096", "ok"),
+            *[pair for k in every for pair in (
+                *[("u 8", f"ok {k * (k + 1) // 2 + i} {4095 + k * (k + 1) // 2}") for i in range(k + 1)],
+                *[("t", f"sent 8 {k * (k + 1) // 2 + i} missed 0") for i in range(k)], ("C 8", "no 12"),
+                ("t", f"sent 8 {k * (k + 1) // 2 + k} missed 0"), ("C 8", "ok"), ("U 8 4096", "ok"),
+            )],
+        ),
+        "a packet in each place keeps its flow open": paired(
+            ("F 8 1", "ok"),
+            *[pair for k in every for first in [k * (k + 1) // 2] for pair in (
+                *[("f 8 1", f"ok {first + i} {(first + i) * 720720} {(first + i + 1) * 720720}") for i in range(k + 1)],
+                *[pair for i in range(k) for pair in (("b", f"ok 8 {first + i} {(first + i) * 720720}"), ("e", f"ok 8 {first + i}"))],
+                ("c 8", "no 12"), ("b", f"ok 8 {first + k} {(first + k) * 720720}"), ("e", f"ok 8 {first + k}"),
+                ("c 8", "ok"), ("F 8 1", "ok"),
+            )],
+        ),
         "texts that close nothing": paired(
             ("U 1 3", "ok"), ("F 1 3", "ok"), *[(bad, "no 11") for bad in bad_texts], ("u 1", "ok 0 2"),
             ("f 1 1", "ok 0 0 240240"), ("C 0", "no 2"), ("c 0", "no 2"), ("t", "sent 1 0 missed 0"), ("C 1", "ok"),

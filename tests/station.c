@@ -23,6 +23,23 @@ static void play(char command, uint64_t flow, uint64_t figure) {
     }
 }
 
+/* Whether an answer is of the kind that its command gets when it is not refused. */
+static bool in_kind(char command, uint64_t kind) {
+    switch (command) {
+    case 'U':
+    case 'F': return kind == TUHKELIAR_OPENED;
+    case 'C':
+    case 'c': return kind == TUHKELIAR_CLOSED;
+    case 'u': return kind == TUHKELIAR_CELL_ACCEPTED;
+    case 'f': return kind == TUHKELIAR_PACKET_ACCEPTED;
+    case 't': return kind == TUHKELIAR_SENT || kind == TUHKELIAR_IDLE;
+    case 'x': return kind == TUHKELIAR_IDLE;
+    case 'b': return kind == TUHKELIAR_BEGUN;
+    case 'e': return kind == TUHKELIAR_ENDED;
+    }
+    return false;
+}
+
 static void tell(tuhkeliar_answer t) {
     switch (t.kind) {
     case TUHKELIAR_REFUSED: printf("no %" PRIu64 "\n", t.a); break;
@@ -74,6 +91,7 @@ int main(void) {
         uint64_t flow = 0, figure = 0;
         sscanf(line, "%c %" SCNu64 " %" SCNu64, &command, &flow, &figure);
         play(command, flow, figure);
+        if (called.answer.kind != TUHKELIAR_REFUSED && !in_kind(command, called.answer.kind)) return 1;
         tell(called.answer);
     }
     return 0;

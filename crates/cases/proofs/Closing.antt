@@ -1,5 +1,6 @@
--- The closings' one proof: the definitions compute.
-use mathlib.Core.Path.{refl}
+-- The closings: the definitions compute, for the session once its numbers are in digits.
+use mathlib.Core.Path.{_≡_, refl}
+use native.Mathlib.Omega.{arith}
 use Rattle.units.specs.Refusals.{firstOf}
 use Rattle.places.specs.Places.{count, firstFree}
 use Rattle.places.specs.Choice.{comesBefore, better, least}
@@ -9,9 +10,25 @@ use Rattle.urgent.specs.Calls.{closeOf as closeUrgentOf}
 use Rattle.urgent.specs.Calls.{offerOf as offerCellOf}
 use Rattle.fair.specs.Calls.{openOf, closeOf, offerOf, beginOf, endOf}
 use Rattle.station.specs.Calls.{callOf}
+use Rattle.lines.specs.Grammar.{decimalOf}
+use Rattle.lines.specs.Reading.{readOn}
+use Rattle.lines.proofs.Decimal.{decimal-digit}
+use Rattle.session.specs.Whole.{linesOf, answersOf}
 use Rattle.cases.specs.Table.{replies}
+use Rattle.cases.specs.Worked.{bytesOf}
 use Rattle.cases.specs.Closing.{Closings}
+use Rattle.cases.proofs.Worked.{longer}
+
+-- the refusal of a flow in use
+twelve : decimalOf 12 ≡ bytesOf "12"
+unfolding bytesOf
+twelve = longer 1 2 (omega arith) (omega arith) (decimal-digit 1 (omega arith))
 
 pub closings : Closings
-unfolding replies callOf openUrgentOf closeUrgentOf offerCellOf turnOf openOf closeOf offerOf beginOf endOf firstOf count firstFree comesBefore better least
-closings = (refl, refl)
+unfolding replies bytesOf linesOf answersOf readOn callOf openUrgentOf closeUrgentOf offerCellOf turnOf openOf closeOf offerOf beginOf endOf firstOf count firstFree comesBefore better least
+closings =
+    record {
+      urgent = refl;
+      fair = refl;
+      session = rw (decimal-digit 0 (omega arith), decimal-digit 1 (omega arith), decimal-digit 2 (omega arith), twelve);
+    }

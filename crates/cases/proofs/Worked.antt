@@ -18,7 +18,7 @@ use Rattle.session.specs.Whole.{linesOf, answersOf}
 use Rattle.cases.specs.Worked.{bytesOf, Worked}
 
 -- one digit more at the end of a number's text
-longer : (a d : ℕ) {digits : List ℕ} → 1 ≤ a → d < 10 → decimalOf a ≡ digits → decimalOf (a * 10 + d) ≡ digits ++ (48 + d) ∷ []
+pub longer : (a d : ℕ) {digits : List ℕ} → 1 ≤ a → d < 10 → decimalOf a ≡ digits → decimalOf (a * 10 + d) ≡ digits ++ (48 + d) ∷ []
 longer a d h l e = decimal-snoc a d h l ∙ ap (λ (t : List ℕ). t ++ (48 + d) ∷ []) e
 
 -- the finish tag of 100 bytes at weight 1

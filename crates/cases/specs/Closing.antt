@@ -1,14 +1,12 @@
--- Closing a flow and opening it again, worked by hand: what the definitions give, and what they should.
+-- Closing a flow and opening it again, worked by hand: what the definitions give, and what they should; and a session in its own words.
 use mathlib.Core.Path.{_≡_}
 use mathlib.Core.List.{[], _∷_}
-use Prim.Native.Nat.{ℕ}
-use Rattle.units.specs.Answers.{Told, values}
+use Rattle.units.specs.Answers.{values}
 use Rattle.station.specs.declared.Call.the-variants.{OpenUrgent, OpenFair, CloseUrgent, CloseFair, OfferCell, OfferPacket, OpenTurn, Begin, End}
 use Rattle.station.specs.Calls.{freshStation}
-use Rattle.cases.specs.Table.{Case, replies, ok}
-
-abbrev pub no : ℕ → Told
-no number = record { number = number; values = [] }
+use Rattle.session.specs.Whole.{sessionOf}
+use Rattle.cases.specs.Worked.{bytesOf}
+use Rattle.cases.specs.Table.{Case, replies, ok, no}
 
 -- a flow with a cell waiting is not closed; once the cell is sent it is, and opened again with a deadline of 5 its next cell is number 1
 abbrev pub urgentCase : Case
@@ -55,6 +53,10 @@ fairCase =
           ∷ [];
     }
 
--- Both are answered as they should be.
-abbrev pub Closings : Type 0
-Closings = (urgentCase .answered ≡ urgentCase .expected) × (fairCase .answered ≡ fairCase .expected)
+-- Both are answered as they should be, and a session that closes flows gives its output, byte for byte.
+pub record Closings : Type 0 where
+  pub urgent : urgentCase .answered ≡ urgentCase .expected
+  pub fair : fairCase .answered ≡ fairCase .expected
+  pub session :
+      sessionOf (bytesOf "U 0 2\nu 0\nC 0\nc 0\nF 0 1\nt\nC 0\nu 0\nc 0\n")
+      ≡ bytesOf "ok\nok 0 1\nno 12\nno 2\nok\nsent 0 0 missed 0\nok\nno 2\nok\n"

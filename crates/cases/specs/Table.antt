@@ -38,6 +38,9 @@ declared burst period deadline = record { burst = burst; period = period; deadli
 abbrev pub ok : Told
 ok = values []
 
+abbrev pub no : ℕ → Told
+no number = record { number = number; values = [] }
+
 -- 100 bytes on flow 0 of weight 1, then 100 and 100 on flow 1 of weight 2, and all of them served
 abbrev pub callsA : List Call → List Call
 callsA more =
@@ -104,7 +107,7 @@ abbrev pub H : Case
 H =
     record {
       answered = replies (freshAt 3999999999) (OpenUrgent 0 1 ∷ OpenUrgent 1 2 ∷ OfferCell 0 ∷ OfferCell 1 ∷ []);
-      expected = ok ∷ ok ∷ values (0 ∷ 3999999999 ∷ []) ∷ record { number = 7; values = [] } ∷ [];
+      expected = ok ∷ ok ∷ values (0 ∷ 3999999999 ∷ []) ∷ no 7 ∷ [];
     }
 
 abbrev pub I : Case

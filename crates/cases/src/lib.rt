@@ -1,1 +1,1 @@
-// The worked cases of the tender: one table and its one proof, no code.
+// What was worked by hand: the tender's cases, its session, and closings. Statements and proofs, no code.

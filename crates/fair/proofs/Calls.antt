@@ -23,7 +23,7 @@ use Rattle.tags.proofs.Tags.{beyond-told, at-told}
 use Rattle.fair.specs.declared.Fair.{Fair}
 use Rattle.fair.specs.declared.Done.{Done}
 use Rattle.fair.specs.declared.Answer.the-variants.{Accepted, Ended}
-use Rattle.fair.specs.Lane.{idle, flowAt, waitingOf, waiting, serves, startOf, keyOf, chosen, largestEnded}
+use Rattle.fair.specs.Lane.{idle, flowAt, waitingOf, waiting, busyWith, startOf, keyOf, chosen, largestEnded}
 use Rattle.fair.specs.Calls.{refused, unless, opened, openOf, closed, closeOf, offerOf, begun, beginOf, ended, endOf}
 
 module _ (u : Fair) (flow weight : ℕ) where
@@ -59,11 +59,11 @@ module _ (u : Fair) (flow : ℕ) where
       unfolding closeOf firstOf
       close-waits w = rw (le-ltb 15 flow h, o, lt-ltb 0 (waitingOf u flow) w)
 
-      pub close-serves : waitingOf u flow ≤ 0 → serves u flow ≡ true → refused u FlowInUse ≡ closeOf u flow
+      pub close-serves : waitingOf u flow ≤ 0 → busyWith (u .service) flow ≡ true → refused u FlowInUse ≡ closeOf u flow
       unfolding closeOf firstOf
       close-serves w s = rw (le-ltb 15 flow h, o, le-ltb 0 (waitingOf u flow) w, s)
 
-      pub close-ok : waitingOf u flow ≤ 0 → serves u flow ≡ false → closed u flow ≡ closeOf u flow
+      pub close-ok : waitingOf u flow ≤ 0 → busyWith (u .service) flow ≡ false → closed u flow ≡ closeOf u flow
       unfolding closeOf firstOf
       close-ok w s = rw (le-ltb 15 flow h, o, le-ltb 0 (waitingOf u flow) w, s)
 

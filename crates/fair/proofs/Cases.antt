@@ -14,7 +14,7 @@ use Rattle.tags.specs.declared.Packet.{Packet}
 use Rattle.tags.specs.Tags.{finishAt}
 use Rattle.fair.specs.declared.Fair.{Fair}
 use Rattle.fair.specs.declared.Done.{Done}
-use Rattle.fair.specs.Lane.{flowAt, waitingOf, waiting, serves, startOf, chosen}
+use Rattle.fair.specs.Lane.{flowAt, waitingOf, waiting, busyWith, startOf, chosen}
 use Rattle.fair.specs.Calls.{refused, unless, opened, openOf, closed, closeOf, accepted, offerOf, begun, beginOf, ended, endOf}
 
 module _ (u : Fair) (P : Done → Type 0) (no : (r : Refusal) → P (refused u r)) where
@@ -29,11 +29,11 @@ module _ (u : Fair) (P : Done → Type 0) (no : (r : Refusal) → P (refused u r
       go false p false o true q = no BeyondLimit
       go false p false o false q = ok (ltb-false 15 flow p) o q
 
-  pub close-cases : (flow : ℕ) → (flow ≤ 15 → waitingOf u flow ≤ 0 → serves u flow ≡ false → P (closed u flow)) → P (closeOf u flow)
+  pub close-cases : (flow : ℕ) → (flow ≤ 15 → waitingOf u flow ≤ 0 → busyWith (u .service) flow ≡ false → P (closed u flow)) → P (closeOf u flow)
   unfolding closeOf firstOf
-  close-cases flow ok = go (ltb 15 flow) refl (flowAt u flow .opened) (ltb 0 (waitingOf u flow)) refl (serves u flow) refl
+  close-cases flow ok = go (ltb 15 flow) refl (flowAt u flow .opened) (ltb 0 (waitingOf u flow)) refl (busyWith (u .service) flow) refl
     where
-      go : (a : Bool) → ltb 15 flow ≡ a → (b c : Bool) → ltb 0 (waitingOf u flow) ≡ c → (d : Bool) → serves u flow ≡ d
+      go : (a : Bool) → ltb 15 flow ≡ a → (b c : Bool) → ltb 0 (waitingOf u flow) ≡ c → (d : Bool) → busyWith (u .service) flow ≡ d
           → P (unless u (cond a (some NoSuchFlow) (cond (not b) (some NotOpen) (cond (c || d) (some FlowInUse) none))) (closed u flow))
       go true p b c w d s = no NoSuchFlow
       go false p false c w d s = no NotOpen

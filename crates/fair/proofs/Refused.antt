@@ -15,7 +15,7 @@ use Rattle.tags.specs.Tags.{freePacket, isHeld}
 use Rattle.tags.specs.Grounds.{openingGrounds, closingGrounds, offeringGrounds}
 use Rattle.fair.specs.declared.Fair.{Fair}
 use Rattle.fair.specs.declared.Done.{Done}
-use Rattle.fair.specs.Lane.{flowAt, waitingOf, waiting, serves, startOf, keyOf, chosen, beginGrounds, endGrounds}
+use Rattle.fair.specs.Lane.{flowAt, waitingOf, waiting, busyWith, startOf, keyOf, chosen, beginGrounds, endGrounds}
 use Rattle.fair.specs.Calls.{refused, unless, opened, openOf, closed, closeOf, accepted, offerOf, begun, beginOf, ended, endOf}
 use Rattle.fair.specs.Answers.{refusalIn}
 use Rattle.fair.specs.Laws.{RefusedFirst, RefusedSame}
@@ -40,7 +40,7 @@ refused-first u =
     record {
       opening = λ flow weight. unless-first u (firstOf (openingGrounds flow weight (flowAt u flow))) (opened u flow weight) refl;
       closing = λ flow.
-          unless-first u (firstOf (closingGrounds flow (flowAt u flow) (waitingOf u flow) (serves u flow))) (closed u flow) refl;
+          unless-first u (firstOf (closingGrounds flow (flowAt u flow) (waitingOf u flow) (busyWith (u .service) flow))) (closed u flow) refl;
       offering = λ flow length.
           unless-first u (firstOf (offeringGrounds flow (flowAt u flow) (waitingOf u flow) (startOf u flow) length)) (accepted u flow length) refl;
       beginning = begin-first u (chosen u) refl;
@@ -66,7 +66,7 @@ refused-same u r =
       opening = λ flow weight.
           unless-same u (firstOf (openingGrounds flow weight (flowAt u flow))) (opened u flow weight) (λ x q. absurd (not-both x q)) r;
       closing = λ flow.
-          unless-same u (firstOf (closingGrounds flow (flowAt u flow) (waitingOf u flow) (serves u flow))) (closed u flow)
+          unless-same u (firstOf (closingGrounds flow (flowAt u flow) (waitingOf u flow) (busyWith (u .service) flow))) (closed u flow)
           (λ x q. absurd (not-both x q)) r;
       offering = λ flow length.
           unless-same u (firstOf (offeringGrounds flow (flowAt u flow) (waitingOf u flow) (startOf u flow) length)) (accepted u flow length)

@@ -17,7 +17,7 @@ use Rattle.tags.specs.Grounds.{openingGrounds, closingGrounds, offeringGrounds}
 use Rattle.fair.specs.declared.Fair.{Fair}
 use Rattle.fair.specs.declared.Done.{Done}
 use Rattle.fair.specs.declared.Answer.the-variants.{Refused, Opened, Closed, Accepted, Begun, Ended}
-use Rattle.fair.specs.Lane.{idle, flowAt, waitingOf, waiting, serves, startOf, finishTag, chosen, largestEnded, beginGrounds, endGrounds}
+use Rattle.fair.specs.Lane.{idle, flowAt, waitingOf, waiting, busyWith, startOf, finishTag, chosen, largestEnded, beginGrounds, endGrounds}
 
 -- a refused call hands the lane back as it was
 abbrev pub refused : Fair → Refusal → Done
@@ -57,7 +57,7 @@ closed u flow =
 
 -- what closing a flow gives
 unfoldable pub closeOf : Fair → ℕ → Done
-closeOf u flow = unless u (firstOf (closingGrounds flow (flowAt u flow) (waitingOf u flow) (serves u flow))) (closed u flow)
+closeOf u flow = unless u (firstOf (closingGrounds flow (flowAt u flow) (waitingOf u flow) (busyWith (u .service) flow))) (closed u flow)
 
 -- offering: the packet gets its tags and its number, and takes the flow's first free place; virtual time stays
 abbrev pub accepted : Fair → ℕ → ℕ → Done

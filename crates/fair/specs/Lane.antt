@@ -43,9 +43,9 @@ waitingOf u flow = count isHeld (placesOf placeCount flow (u .packets))
 abbrev pub waiting : Fair → ℕ
 waiting u = count isHeld (u .packets)
 
--- a packet of the flow is in service
-abbrev pub serves : Fair → ℕ → Bool
-serves u flow = u .service .busy && eqb (u .service .flow) flow
+-- the service is busy with a packet of the flow
+abbrev pub busyWith : Service → ℕ → Bool
+busyWith v flow = v .busy && eqb (v .flow) flow
 
 -- a packet offered now starts at the virtual time, or where its flow's last packet finishes if that is later
 abbrev pub startOf : Fair → ℕ → Tag

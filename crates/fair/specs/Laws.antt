@@ -15,7 +15,7 @@ use Rattle.tags.specs.Tags.{freePacket, isHeld}
 use Rattle.fair.specs.declared.Fair.{Fair}
 use Rattle.fair.specs.declared.Answer.the-variants.{Begun}
 use Rattle.tags.specs.Grounds.{openingGrounds, closingGrounds, offeringGrounds}
-use Rattle.fair.specs.Lane.{flowAt, waitingOf, serves, startOf, keyOf, beginGrounds, endGrounds}
+use Rattle.fair.specs.Lane.{flowAt, waitingOf, busyWith, startOf, keyOf, beginGrounds, endGrounds}
 use Rattle.fair.specs.Calls.{openOf, closeOf, offerOf, beginOf, endOf}
 use Rattle.fair.specs.Answers.{refusalIn}
 
@@ -41,7 +41,7 @@ BeginsFirst = (u : Fair) (flow number bytes : ℕ) (start : Tag) → beginOf u .
 -- Each call is refused exactly for the first of its grounds that holds.
 pub record RefusedFirst (u : Fair) : Type 0 where
   pub opening : (flow weight : ℕ) → refusalIn (openOf u flow weight .answer) ≡ firstOf (openingGrounds flow weight (flowAt u flow))
-  pub closing : (flow : ℕ) → refusalIn (closeOf u flow .answer) ≡ firstOf (closingGrounds flow (flowAt u flow) (waitingOf u flow) (serves u flow))
+  pub closing : (flow : ℕ) → refusalIn (closeOf u flow .answer) ≡ firstOf (closingGrounds flow (flowAt u flow) (waitingOf u flow) (busyWith (u .service) flow))
   pub offering :
       (flow length : ℕ)
       → refusalIn (offerOf u flow length .answer) ≡ firstOf (offeringGrounds flow (flowAt u flow) (waitingOf u flow) (startOf u flow) length)

@@ -1,7 +1,6 @@
 // Closing a flow.
 ghost use mathlib.Core.Path.{_≡_};
-ghost use mathlib.Core.Bool.{_&&_};
-ghost use lib.Dec.{eqb};
+ghost use Rattle.fair.specs.Lane.{busyWith};
 ghost use Rattle.fair.specs.Calls.{closeOf};
 use crate::Answer;
 use crate::Done;
@@ -48,7 +47,7 @@ impl Fair {
             };
         }
         let service = self.service;
-        if serves(service, flow) {
+        if busy_with(service, flow) {
             return Done {
                 lane: self,
                 answer: Answer::Refused(Refusal::FlowInUse),
@@ -77,8 +76,8 @@ impl Fair {
 }
 
 // Whether the service is busy with a packet of the flow.
-fn serves(service: Service, flow: u64) -> bool
-    ensures { λ r. ⌜ r ≡ (service .busy && eqb (service .flow) flow) ⌝ }
+fn busy_with(service: Service, flow: u64) -> bool
+    ensures { λ r. ⌜ r ≡ busyWith service flow ⌝ }
 {
     if service.busy {
         return service.flow == flow;

@@ -57,7 +57,7 @@ module _ {A : Type 0} (flowOf : A → ℕ) (Q : A → ℕ → Type 0) where
   Stands live marks a = live a ≡ true → (openIn marks (flowOf a) ≡ true) × Q a (inForce marks (flowOf a))
 
   module _ (live : A → Bool) (marks : List Mark) (xs : List A) (k : Each (Stands live marks) xs) where
-    -- opened: the flow was closed, so that no record of it is live
+    -- opened: the flow was not open, so that no record of it is live
     pub stands-opened : (flow number : ℕ) → openIn marks flow ≡ false → Each (Stands live (opens flow number ∷ marks)) xs
     unfolding openIn inForce
     stands-opened flow number shut = each-map (Stands live marks) _ (λ a s l. go a (eqb flow (flowOf a)) refl (s l)) xs k

@@ -98,7 +98,7 @@ pub record Promises : Type 0 where
   pub U5 : (calls : List Call) → NoneBetter (run calls .cells)
   -- U6: every missed cell has a reason
   pub U6 : (calls : List Call) → Explained (run calls .cells)
-  -- U7: no opening or closing touches the terms of a cell that waits: its flow is open, with the deadline of its acceptance
+  -- U7: a cell that waits is of an open flow, and the deadline of its acceptance is still in force
   pub U7 : (calls : List Call) → TermsStand (run calls .cells)
   -- F1: virtual time is the published one, and an accepted packet is told the published tags
   pub F1-time : (calls : List Call) → run calls .station .fair .time .0 ≡ virtualTime (run calls .packets .moments)
@@ -115,7 +115,7 @@ pub record Promises : Type 0 where
   -- F4: virtual time never falls, and every charge times its weight is 720,720
   pub F4 : (xs ys : List Call) → virtualTime (run xs .packets .moments) ≤ virtualTime (run (xs ++ ys) .packets .moments)
   pub F4-charges : ProductRule
-  -- F5: nor those of a packet that waits or is in service: its flow is open, with the weight that it was charged by
+  -- F5: a packet that waits or is in service is of an open flow, and its charge is that of the weight still in force
   pub F5 : (calls : List Call) → FairTermsStand (run calls .packets)
   -- A1: admission is the published link test
   pub A1 : Published

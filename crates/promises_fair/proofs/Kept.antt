@@ -8,8 +8,9 @@ use Prim.Native.Nat.{ℕ, suc, _+_, _≤_, _<_}
 use native.Mathlib.Omega.{arith}
 use borrow.Author.Tests.{eqb-true, eqb-false, lt-ltb, le-ltb, ltb-true, ltb-false}
 use lib.Dec.{ltb, eqb}
-use lib.ListN.{length, length-set}
+use lib.ListN.{length, set, length-set}
 use Rattle.units.specs.Limits.{tagLimit, badWeight}
+use Rattle.units.specs.declared.Tag.{Tag}
 use Rattle.places.specs.Places.{bit, count, countAt}
 use Rattle.places.specs.Marks.{Mark, opens, closes, openIn, inForce}
 use Rattle.places.proofs.CountAt.{at-same, at-count, own-places}
@@ -20,8 +21,8 @@ use Rattle.tags.specs.declared.Flow.{Flow}
 use Rattle.tags.specs.Tags.{isHeld, shutFlow}
 use Rattle.fair.specs.declared.Service.{Service}
 use Rattle.fair.specs.declared.Fair.{Fair}
-use Rattle.fair.specs.Lane.{flowAt, waitingOf, waiting}
-use Rattle.fair.specs.Calls.{opened, closed}
+use Rattle.fair.specs.Lane.{flowAt, waitingOf, waiting, busyWith}
+use Rattle.fair.specs.Calls.{withFlow, opened, closed}
 use Rattle.promises_fair.specs.Packets.{Packet, Moment, began, ceased, lastFinish, finishIn, wasBegun, serving, largestEnded, virtualTime}
 use Rattle.promises_fair.specs.Promised.{Question, holds, begunOf, InOrder, Numbered}
 use Rattle.promises_fair.proofs.Numbers.{ofFlow, Rising}
@@ -45,7 +46,7 @@ Serves v ps (began f n l s p ∷ ms) =
 Serves v ps (ceased f n l p e w ∷ ms) = v .busy ≡ false
 
 -- so that it is busy with a flow's packet as the moments tell
-pub serving-told : (v : Service) (ps : List Packet) (ms : List Moment) → Serves v ps ms → (flow : ℕ) → (v .busy && eqb (v .flow) flow) ≡ serving ms flow
+pub serving-told : (v : Service) (ps : List Packet) (ms : List Moment) → Serves v ps ms → (flow : ℕ) → busyWith v flow ≡ serving ms flow
 serving-told v ps [] s flow = rw s
 serving-told v ps (began f n l x p ∷ ms) s flow = rw (s .0, s .1)
 serving-told v ps (ceased f n l p e w ∷ ms) s flow = rw s
@@ -109,55 +110,43 @@ module _ (u : Fair) (marks : List Mark) (ps : List Packet) (ms : List Moment) (k
       ∙ at-same (λ j x. isHeld x) (holds (λ f n l s e. true)) (λ j x. ap bit (sym (and-holds (x .held) true refl))) 0 (u .packets)
       ∙ k .tied (λ f n l s e. true)
 
-  -- ---- a flow is opened, or closed: its record has the new mark, and its numbers and its last finish go on
+  -- ---- a flow is opened, or closed: its record is x then and has the new mark, and its numbers and its last finish go on
   module _ (flow : ℕ) (l : flow ≤ 15) where
     low : flow < length (u .flows)
     low = omega (arith, k .sixteen)
 
-    told : Told (λ (x : Flow). x .opened) (λ (x : Flow). x .weight) shutFlow 16 (u .flows) marks
+    abbrev FlowsTold : List Flow → List Mark → Type 0
+    FlowsTold = Told (λ (x : Flow). x .opened) (λ (x : Flow). x .weight) shutFlow 16
+
+    told : FlowsTold (u .flows) marks
     told f b = (k .openFlows f b, k .weights f b)
 
-    module _ (weight : ℕ) (good : badWeight weight ≡ false) where
-      now-open : Flow
-      now-open = record { opened = true; weight = weight; next = flowAt u flow .next; finish = flowAt u flow .finish }
-
-      pub kept-open : Kept (opened u flow weight .lane) (opens flow weight ∷ marks) ps ms
-      unfolding now-open
-      kept-open =
-          let t = told-opened (λ (x : Flow). x .opened) (λ (x : Flow). x .weight) shutFlow 16 (u .flows) marks told flow now-open low refl in
-          record {
-            sixteen = length-set (u .flows) flow now-open ∙ k .sixteen;
-            long = k .long;
-            openFlows = λ f b. t f b .0;
-            weights = λ f b. t f b .1;
-            fit = force-opened (λ n. badWeight n ≡ false) marks (k .fit) flow weight good;
-            next = λ f b. set-keeps (u .flows) flow now-open shutFlow low (λ (x : Flow). x .next) refl f ∙ k .next f b;
-            finishes = λ f b. set-keeps (u .flows) flow now-open shutFlow low (λ (x : Flow). x .finish .0) refl f ∙ k .finishes f b;
-            tied = k .tied;
-            time = k .time;
-            ended = k .ended;
-            service = k .service;
-          }
-
-    now-closed : Flow
-    now-closed = record { opened = false; weight = flowAt u flow .weight; next = flowAt u flow .next; finish = flowAt u flow .finish }
-
-    pub kept-close : Kept (closed u flow .lane) (closes flow ∷ marks) ps ms
-    unfolding now-closed
-    kept-close =
-        let t =
-        told-closed (λ (x : Flow). x .opened) (λ (x : Flow). x .weight) shutFlow 16 (u .flows) marks told flow now-closed low refl
-        (k .weights flow (omega arith)) in
+    kept-marked : (x : Flow) (mark : Mark) → x .next ≡ flowAt u flow .next → x .finish ≡ flowAt u flow .finish
+        → FlowsTold (set (u .flows) flow x) (mark ∷ marks)
+        → ((f : ℕ) → openIn (mark ∷ marks) f ≡ true → badWeight (inForce (mark ∷ marks) f) ≡ false) → Kept (withFlow u flow x) (mark ∷ marks) ps ms
+    kept-marked x mark next finish t fit =
         record {
-          sixteen = length-set (u .flows) flow now-closed ∙ k .sixteen;
+          sixteen = length-set (u .flows) flow x ∙ k .sixteen;
           long = k .long;
           openFlows = λ f b. t f b .0;
           weights = λ f b. t f b .1;
-          fit = force-closed (λ n. badWeight n ≡ false) marks (k .fit) flow;
-          next = λ f b. set-keeps (u .flows) flow now-closed shutFlow low (λ (x : Flow). x .next) refl f ∙ k .next f b;
-          finishes = λ f b. set-keeps (u .flows) flow now-closed shutFlow low (λ (x : Flow). x .finish .0) refl f ∙ k .finishes f b;
+          fit = fit;
+          next = λ f b. set-keeps (u .flows) flow x shutFlow low (λ (y : Flow). y .next) next f ∙ k .next f b;
+          finishes = λ f b. ap (λ (y : Tag). y .0) (set-keeps (u .flows) flow x shutFlow low (λ (y : Flow). y .finish) finish f) ∙ k .finishes f b;
           tied = k .tied;
           time = k .time;
           ended = k .ended;
           service = k .service;
         }
+
+    pub kept-open : (weight : ℕ) → badWeight weight ≡ false → Kept (opened u flow weight .lane) (opens flow weight ∷ marks) ps ms
+    kept-open weight good =
+        kept-marked _ (opens flow weight) refl refl
+        (told-opened (λ (x : Flow). x .opened) (λ (x : Flow). x .weight) shutFlow 16 (u .flows) marks told flow _ low refl)
+        (force-opened (λ n. badWeight n ≡ false) marks (k .fit) flow weight good)
+
+    pub kept-close : Kept (closed u flow .lane) (closes flow ∷ marks) ps ms
+    kept-close =
+        kept-marked _ (closes flow) refl refl
+        (told-closed (λ (x : Flow). x .opened) (λ (x : Flow). x .weight) shutFlow 16 (u .flows) marks told flow _ low refl (k .weights flow (omega arith)))
+        (force-closed (λ n. badWeight n ≡ false) marks (k .fit) flow)

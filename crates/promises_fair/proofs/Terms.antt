@@ -1,4 +1,4 @@
--- F5: what waits or is in service keeps its terms. An opening is of a flow that was closed, a closing of a flow of which nothing waits
+-- F5: what waits or is in service keeps its terms. An opening is of a flow that was not open, a closing of a flow of which nothing waits
 -- or is in service; a packet that begins was waiting, and an end leaves one packet less.
 use mathlib.Core.Path.{_≡_, refl, sym, ap, _∙_}
 use mathlib.Core.Bool.{Bool, true, false, not, _&&_, _||_, true≢false, false≢true}

@@ -11,7 +11,7 @@ use lib.ListN.{length, getD, set, length-set}
 use Rattle.units.specs.Limits.{placeCount, slotLimit, badDeadline}
 use Rattle.units.proofs.Limits.{inside}
 use Rattle.places.specs.Places.{bit, count, countAt, firstFree, placesOf}
-use Rattle.places.specs.Marks.{opens, closes, openIn}
+use Rattle.places.specs.Marks.{Mark, opens, closes, openIn, inForce}
 use Rattle.places.proofs.Count.{count-le, count-le-length, and-le}
 use Rattle.places.proofs.CountAt.{own-places}
 use Rattle.places.proofs.Free.{part-length}
@@ -22,7 +22,7 @@ use Rattle.urgent.specs.declared.Cell.{Cell as Place}
 use Rattle.urgent.specs.declared.Flow.{Flow}
 use Rattle.urgent.specs.declared.Urgent.{Urgent}
 use Rattle.urgent.specs.Lane.{freeCell, isHeld, shutFlow, flowAt, waitingOf}
-use Rattle.urgent.specs.Calls.{opened, closed, accepted, lastSlot}
+use Rattle.urgent.specs.Calls.{withFlow, opened, closed, accepted, lastSlot}
 use Rattle.promises_urgent.specs.Cells.{Cell, Gone, Cells, deadlineIn, wasSent, waits}
 use Rattle.promises_urgent.specs.Notes.{marked, noteOffer}
 use Rattle.promises_urgent.specs.Promised.{Question, holds, acceptedOf, waitingIn, Numbered}
@@ -60,58 +60,45 @@ waiting-most u h k flow l =
       part-length isHeld freeCell (u .cells) (flow * 16) 16 (omega (arith, k .long)),
     )
 
--- ---- a flow is opened, or closed: its record has the new mark, and its numbers go on
+-- ---- a flow is opened, or closed: its record is x then and has the new mark, and its numbers go on
 module _ (u : Urgent) (h : Cells) (k : Kept u h) (flow : ℕ) (l : flow ≤ 15) where
   low : flow < length (u .flows)
   low = omega (arith, k .sixteen)
 
-  told : Told (λ (x : Flow). x .opened) (λ (x : Flow). x .deadline) shutFlow 16 (u .flows) (h .marks)
+  abbrev FlowsTold : List Flow → List Mark → Type 0
+  FlowsTold = Told (λ (x : Flow). x .opened) (λ (x : Flow). x .deadline) shutFlow 16
+
+  told : FlowsTold (u .flows) (h .marks)
   told f b = (k .openFlows f b, k .deadlines f b)
 
-  module _ (deadline : ℕ) (d : badDeadline deadline ≡ false) where
-    now-open : Flow
-    now-open = record { opened = true; deadline = deadline; next = flowAt u flow .next }
-
-    pub kept-open : Kept (opened u flow deadline .lane) (marked h (opens flow deadline))
-    unfolding now-open
-    kept-open =
-        let t = told-opened (λ (x : Flow). x .opened) (λ (x : Flow). x .deadline) shutFlow 16 (u .flows) (h .marks) told flow now-open low refl in
-        record {
-          sixteen = length-set (u .flows) flow now-open ∙ k .sixteen;
-          long = k .long;
-          time = k .time;
-          within = k .within;
-          openFlows = λ f b. t f b .0;
-          deadlines = λ f b. t f b .1;
-          live = force-opened (λ n. 1 ≤ n) (h .marks) (k .live) flow deadline (inside deadline 4096 d .0);
-          next = λ f b. set-keeps (u .flows) flow now-open shutFlow low (λ (x : Flow). x .next) refl f ∙ k .next f b;
-          numbered = k .numbered;
-          tied = k .tied;
-          gone = k .gone;
-        }
-
-  now-closed : Flow
-  now-closed = record { opened = false; deadline = flowAt u flow .deadline; next = flowAt u flow .next }
-
-  pub kept-close : Kept (closed u flow .lane) (marked h (closes flow))
-  unfolding now-closed
-  kept-close =
-      let t =
-      told-closed (λ (x : Flow). x .opened) (λ (x : Flow). x .deadline) shutFlow 16 (u .flows) (h .marks) told flow now-closed low refl
-      (k .deadlines flow (omega arith)) in
+  kept-marked : (x : Flow) (mark : Mark) → x .next ≡ flowAt u flow .next → FlowsTold (set (u .flows) flow x) (mark ∷ h .marks)
+      → ((f : ℕ) → openIn (mark ∷ h .marks) f ≡ true → 1 ≤ inForce (mark ∷ h .marks) f) → Kept (withFlow u flow x) (marked h mark)
+  kept-marked x mark next t live =
       record {
-        sixteen = length-set (u .flows) flow now-closed ∙ k .sixteen;
+        sixteen = length-set (u .flows) flow x ∙ k .sixteen;
         long = k .long;
         time = k .time;
         within = k .within;
         openFlows = λ f b. t f b .0;
         deadlines = λ f b. t f b .1;
-        live = force-closed (λ n. 1 ≤ n) (h .marks) (k .live) flow;
-        next = λ f b. set-keeps (u .flows) flow now-closed shutFlow low (λ (x : Flow). x .next) refl f ∙ k .next f b;
+        live = live;
+        next = λ f b. set-keeps (u .flows) flow x shutFlow low (λ (y : Flow). y .next) next f ∙ k .next f b;
         numbered = k .numbered;
         tied = k .tied;
         gone = k .gone;
       }
+
+  pub kept-open : (deadline : ℕ) → badDeadline deadline ≡ false → Kept (opened u flow deadline .lane) (marked h (opens flow deadline))
+  kept-open deadline d =
+      kept-marked _ (opens flow deadline) refl
+      (told-opened (λ (x : Flow). x .opened) (λ (x : Flow). x .deadline) shutFlow 16 (u .flows) (h .marks) told flow _ low refl)
+      (force-opened (λ n. 1 ≤ n) (h .marks) (k .live) flow deadline (inside deadline 4096 d .0))
+
+  pub kept-close : Kept (closed u flow .lane) (marked h (closes flow))
+  kept-close =
+      kept-marked _ (closes flow) refl
+      (told-closed (λ (x : Flow). x .opened) (λ (x : Flow). x .deadline) shutFlow 16 (u .flows) (h .marks) told flow _ low refl (k .deadlines flow (omega arith)))
+      (force-closed (λ n. 1 ≤ n) (h .marks) (k .live) flow)
 
 -- ---- a cell is accepted
 -- as the history has it

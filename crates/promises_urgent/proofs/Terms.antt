@@ -1,4 +1,4 @@
--- U7: what waits keeps its terms. An opening is of a flow that was closed, a closing of a flow of which nothing waits, and a turn
+-- U7: what waits keeps its terms. An opening is of a flow that was not open, a closing of a flow of which nothing waits, and a turn
 -- leaves no cell waiting that did not wait before.
 use mathlib.Core.Path.{_≡_}
 use mathlib.Core.Bool.{true, false, _&&_, true≢false}

@@ -7,7 +7,7 @@ use Rattle.units.specs.Refusals.{Ground, firstOf, Rises}
 use Rattle.units.specs.Answers.{numberIn}
 use Rattle.units.specs.declared.Refusal.{Refusal}
 use Rattle.urgent.specs.Lane.{openingGrounds as urgentOpening, closingGrounds as urgentClosing, offeringGrounds as cellOffering, turnGrounds}
-use Rattle.fair.specs.Lane.{flowAt, waitingOf, serves, startOf, beginGrounds, endGrounds}
+use Rattle.fair.specs.Lane.{flowAt, waitingOf, busyWith, startOf, beginGrounds, endGrounds}
 use Rattle.tags.specs.Grounds.{openingGrounds as fairOpening, closingGrounds as fairClosing, offeringGrounds as packetOffering}
 use Rattle.station.specs.declared.Station.{Station}
 use Rattle.station.specs.declared.Call.{Call}
@@ -20,7 +20,7 @@ abbrev pub groundsOf : Station → Call → List Ground
 groundsOf s (OpenUrgent flow deadline) = urgentOpening (s .urgent) flow deadline
 groundsOf s (OpenFair flow weight) = fairOpening flow weight (flowAt (s .fair) flow)
 groundsOf s (CloseUrgent flow) = urgentClosing (s .urgent) flow
-groundsOf s (CloseFair flow) = fairClosing flow (flowAt (s .fair) flow) (waitingOf (s .fair) flow) (serves (s .fair) flow)
+groundsOf s (CloseFair flow) = fairClosing flow (flowAt (s .fair) flow) (waitingOf (s .fair) flow) (busyWith (s .fair .service) flow)
 groundsOf s (OfferCell flow) = cellOffering (s .urgent) flow
 groundsOf s (OfferPacket flow length) = packetOffering flow (flowAt (s .fair) flow) (waitingOf (s .fair) flow) (startOf (s .fair) flow) length
 groundsOf s OpenTurn = turnGrounds (s .urgent)

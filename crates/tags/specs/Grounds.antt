@@ -1,4 +1,4 @@
--- The conditions under which a fair queue refuses an opening or an offer.
+-- The conditions under which a fair queue refuses an opening, a closing or an offer.
 use mathlib.Core.Bool.{Bool, not, _||_}
 use mathlib.Core.List.{List, [], _∷_, _++_}
 use Prim.Native.Nat.{ℕ}

@@ -192,7 +192,16 @@ fn unreachable_states() {
         deadline: 3,
         next: 18446744073709551615,
     };
-    offer(open(close(shut, 0), 0, 4), 0);
+    shut = turn(close(shut, 0), true);
+    offer(open(shut, 0, 4), 0);
+    case(b"the last number, kept through a closing");
+    let mut last = Urgent::fresh();
+    last.flows[0] = Flow {
+        opened: true,
+        deadline: 3,
+        next: 18446744073709551615,
+    };
+    offer(open(close(last, 0), 0, 4), 0);
 }
 
 fn main() {

@@ -88,15 +88,15 @@ returns-3 c =
     let s = after .before .before .before .before .before .before .before .before .args in
     close-waits (s .self) (s .flow) (search needs) (after .before .before .before .if2 .left) (omega (arith, counted after, c .if4 .taken))
 
-serves-requires : tie.Need-serves-requires Inv-loop μ-loop
-serves-requires c κs = search needs
+busy-with-requires : tie.Need-busy-with-requires Inv-loop μ-loop
+busy-with-requires c κs = search needs
 
 returns-4 : tie.Need-returns-4 Inv-loop μ-loop
 returns-4 c =
     let tested = c .before .before .before in
     let after = tested .before in
     let s = after .before .before .before .before .before .before .before .before .args in
-    close-serves (s .self) (s .flow) (search needs) (after .before .before .before .if2 .left) (omega (arith, counted after, tested .if4 .left)) (sym (c .before .serves .ensures) ∙ c .if5 .taken)
+    close-serves (s .self) (s .flow) (search needs) (after .before .before .before .if2 .left) (omega (arith, counted after, tested .if4 .left)) (sym (c .before .busy-with .ensures) ∙ c .if5 .taken)
 
 mul-flows : tie.Need-mul-flows Inv-loop μ-loop
 mul-flows c = search needs
@@ -110,7 +110,7 @@ returns-5 c =
     let tested = served .before .before .before in
     let after = tested .before in
     let s = after .before .before .before .before .before .before .before .before .args in
-    close-ok (s .self) (s .flow) (search needs) (after .before .before .before .if2 .left) (omega (arith, counted after, tested .if4 .left)) (sym (served .before .serves .ensures) ∙ served .if5 .left)
+    close-ok (s .self) (s .flow) (search needs) (after .before .before .before .if2 .left) (omega (arith, counted after, tested .if4 .left)) (sym (served .before .busy-with .ensures) ∙ served .if5 .left)
 
 pub close-spec : {M : Type 1} → statement M
 close-spec =
@@ -132,7 +132,7 @@ close-spec =
     loop-less
     loop-again
     returns-3
-    serves-requires
+    busy-with-requires
     returns-4
     mul-flows
     array-set-from-flows
