@@ -133,10 +133,10 @@ def closings():
         ),
         "a cell in each place keeps its flow open": paired(
             ("U 8 4096", "ok"),
-            *[pair for k in every for pair in (
-                *[("u 8", f"ok {k * (k + 1) // 2 + i} {4095 + k * (k + 1) // 2}") for i in range(k + 1)],
-                *[("t", f"sent 8 {k * (k + 1) // 2 + i} missed 0") for i in range(k)], ("C 8", "no 12"),
-                ("t", f"sent 8 {k * (k + 1) // 2 + k} missed 0"), ("C 8", "ok"), ("U 8 4096", "ok"),
+            *[pair for k in every for first in [k * (k + 1) // 2] for pair in (
+                *[("u 8", f"ok {first + i} {4095 + first}") for i in range(k + 1)],
+                *[("t", f"sent 8 {first + i} missed 0") for i in range(k)], ("C 8", "no 12"),
+                ("t", f"sent 8 {first + k} missed 0"), ("C 8", "ok"), ("U 8 4096", "ok"),
             )],
         ),
         "a packet in each place keeps its flow open": paired(

@@ -19,11 +19,11 @@ use Rattle.promises_fair.specs.Refused.{waitingIn}
 use Rattle.promises_fair.proofs.Kept.{notBegun}
 
 -- a packet waits or is in service, and its terms, as the marks' laws have them
-abbrev Live : List Moment → Packet → Bool
-Live ms a = notBegun ms a || isServed ms a
+abbrev isLive : List Moment → Packet → Bool
+isLive ms a = notBegun ms a || isServed ms a
 
-abbrev OfFlow : Packet → ℕ
-OfFlow a = a .flow
+abbrev itsFlow : Packet → ℕ
+itsFlow a = a .flow
 
 abbrev ByWeight : Packet → ℕ → Type 0
 ByWeight a weight = a .charge ≡ chargeOf weight
@@ -36,7 +36,7 @@ served-flow (ceased f n l p x w ∷ ms) a s = s
 
 module _ (h : Packets) (t : TermsStand h) where
   -- a packet that waits is live, whatever is in service
-  waits-live : (a : Packet) → (notBegun (h .moments) a || false) ≡ true → Live (h .moments) a ≡ true
+  waits-live : (a : Packet) → (notBegun (h .moments) a || false) ≡ true → isLive (h .moments) a ≡ true
   waits-live a = go (notBegun (h .moments) a)
     where
       go : (w : Bool) → (w || false) ≡ true → (w || isServed (h .moments) a) ≡ true
@@ -44,11 +44,11 @@ module _ (h : Packets) (t : TermsStand h) where
       go false z = absurd (false≢true z)
 
   pub terms-opened : (flow weight : ℕ) → openIn (h .marks) flow ≡ false → TermsStand (marked h (opens flow weight))
-  terms-opened flow weight = stands-opened OfFlow ByWeight (Live (h .moments)) (h .marks) (h .accepted) t flow weight
+  terms-opened flow weight = stands-opened itsFlow ByWeight (isLive (h .moments)) (h .marks) (h .accepted) t flow weight
 
   pub terms-closed : (flow : ℕ) → waitingIn h flow ≤ 0 → serving (h .moments) flow ≡ false → TermsStand (marked h (closes flow))
   terms-closed flow z idle =
-      stands-closed OfFlow ByWeight (Live (h .moments)) (h .marks) (h .accepted) t flow
+      stands-closed itsFlow ByWeight (isLive (h .moments)) (h .marks) (h .accepted) t flow
       (each-map (λ (a : Packet). (eqb (a .flow) flow && notBegun (h .moments) a) ≡ false) _
       (λ a e l f. go a f (notBegun (h .moments) a) (isServed (h .moments) a) refl (rw (eq-eqb (a .flow) flow f) at e) l)
       (h .accepted) (none-passes _ (h .accepted) (omega arith)))
@@ -63,11 +63,11 @@ module _ (h : Packets) (t : TermsStand h) where
       → TermsStand (record { calls = h .calls; marks = h .marks; accepted = h .accepted; moments = began f n l s p ∷ h .moments })
   unfolding wasBegun
   terms-begin f n l s p u =
-      stands-fewer OfFlow ByWeight (Live (h .moments)) (h .marks) (h .accepted) t (Live (began f n l s p ∷ h .moments))
+      stands-fewer itsFlow ByWeight (isLive (h .moments)) (h .marks) (h .accepted) t (isLive (began f n l s p ∷ h .moments))
       (λ a. go a (eqb f (a .flow)) refl (eqb n (a .number)) refl)
     where
       go : (a : Packet) (x : Bool) → eqb f (a .flow) ≡ x → (y : Bool) → eqb n (a .number) ≡ y
-          → (not ((x && y) || wasBegun (h .moments) (a .flow) (a .number)) || (x && y)) ≡ true → Live (h .moments) a ≡ true
+          → (not ((x && y) || wasBegun (h .moments) (a .flow) (a .number)) || (x && y)) ≡ true → isLive (h .moments) a ≡ true
       go a true e true g z = rw (← eqb-true f (a .flow) e, ← eqb-true n (a .number) g, u)
       go a true e false g z = waits-live a z
       go a false e y g z = waits-live a z
@@ -76,4 +76,4 @@ module _ (h : Packets) (t : TermsStand h) where
       → TermsStand (record { calls = h .calls; marks = h .marks; accepted = h .accepted; moments = ceased f n l p e w ∷ h .moments })
   unfolding wasBegun
   terms-end f n l p e w =
-      stands-fewer OfFlow ByWeight (Live (h .moments)) (h .marks) (h .accepted) t (Live (ceased f n l p e w ∷ h .moments)) waits-live
+      stands-fewer itsFlow ByWeight (isLive (h .moments)) (h .marks) (h .accepted) t (isLive (ceased f n l p e w ∷ h .moments)) waits-live

@@ -15,19 +15,19 @@ use Rattle.promises_urgent.specs.Promised.{waitingIn, TermsStand}
 use Rattle.promises_urgent.proofs.Steps.{withCell, waits-told}
 
 -- a cell's terms, as the marks' laws have them
-abbrev OfFlow : Cell → ℕ
-OfFlow a = a .flow
+abbrev itsFlow : Cell → ℕ
+itsFlow a = a .flow
 
 abbrev ByDeadline : Cell → ℕ → Type 0
 ByDeadline a deadline = a .deadline ≡ deadline
 
 module _ (h : Cells) (t : TermsStand h) where
   pub terms-opened : (flow deadline : ℕ) → openIn (h .marks) flow ≡ false → TermsStand (marked h (opens flow deadline))
-  terms-opened flow deadline = stands-opened OfFlow ByDeadline (waits h) (h .marks) (h .accepted) t flow deadline
+  terms-opened flow deadline = stands-opened itsFlow ByDeadline (waits h) (h .marks) (h .accepted) t flow deadline
 
   pub terms-closed : (flow : ℕ) → waitingIn h flow ≤ 0 → TermsStand (marked h (closes flow))
   terms-closed flow z =
-      stands-closed OfFlow ByDeadline (waits h) (h .marks) (h .accepted) t flow
+      stands-closed itsFlow ByDeadline (waits h) (h .marks) (h .accepted) t flow
       (each-map (λ (a : Cell). (eqb (a .flow) flow && waits h a) ≡ false) _ (λ a e w f. true≢false (rw (eq-eqb (a .flow) flow f, w) at e))
       (h .accepted) (none-passes _ (h .accepted) (omega arith)))
 
@@ -38,5 +38,5 @@ module _ (h : Cells) (t : TermsStand h) where
   pub terms-later : (later : Cells) → h .slot ≤ later .slot → ((f n : ℕ) → wasSent (later .sent) f n ≡ false → wasSent (h .sent) f n ≡ false)
       → TermsStand (record { slot = later .slot; marks = h .marks; accepted = h .accepted; usable = later .usable; sent = later .sent; missed = later .missed })
   terms-later later time unsent =
-      stands-fewer OfFlow ByDeadline (waits h) (h .marks) (h .accepted) t (waits later)
+      stands-fewer itsFlow ByDeadline (waits h) (h .marks) (h .accepted) t (waits later)
       (λ a w. let e = waits-told later a w in rw (unsent (a .flow) (a .number) (e .0), le-leb (h .slot) (a .last) (omega (arith, e .1))))
