@@ -10,7 +10,7 @@ use lib.ListN.{length, set}
 use Rattle.units.specs.Limits.{placeCount, tagLimit, badWeight, badLength}
 use Rattle.units.specs.Refusals.{firstOf}
 use Rattle.units.specs.declared.Tag.{Tag}
-use Rattle.units.specs.declared.Refusal.the-variants.{NoSuchFlow, NotOpen, AlreadyOpen, BeyondLimit, PlacesFull, TagsUsedUp, PacketInService, NothingWaits, NothingInService, FlowInUse}
+use Rattle.units.specs.declared.Refusal.the-variants.{NoSuchFlow, NotOpen, AlreadyOpen, PlacesFull, TagsUsedUp, PacketInService, NothingWaits, NothingInService, FlowInUse, BadWeight, BadLength}
 use Rattle.places.specs.Places.{count, placesOf, firstFree}
 use Rattle.places.specs.Choice.{nothing, at}
 use Rattle.places.proofs.Free.{part-full, part-room}
@@ -36,9 +36,9 @@ module _ (u : Fair) (flow weight : ℕ) where
     unfolding openOf firstOf
     open-3 o = rw (le-ltb 15 flow h, o)
 
-    pub open-4 : flowAt u flow .opened ≡ false → badWeight weight ≡ true → refused u BeyondLimit ≡ openOf u flow weight
+    pub open-13 : flowAt u flow .opened ≡ false → badWeight weight ≡ true → refused u BadWeight ≡ openOf u flow weight
     unfolding openOf firstOf
-    open-4 o b = rw (le-ltb 15 flow h, o, b)
+    open-13 o b = rw (le-ltb 15 flow h, o, b)
 
     pub open-ok : flowAt u flow .opened ≡ false → badWeight weight ≡ false → opened u flow weight ≡ openOf u flow weight
     unfolding openOf firstOf
@@ -77,9 +77,9 @@ module _ (u : Fair) (flow bytes : ℕ) where
     unfolding offerOf firstOf
     offer-2 o = rw (le-ltb 15 flow h, o)
 
-    pub offer-4 : not (flowAt u flow .opened) ≡ false → badLength bytes ≡ true → refused u BeyondLimit ≡ offerOf u flow bytes
+    pub offer-15 : not (flowAt u flow .opened) ≡ false → badLength bytes ≡ true → refused u BadLength ≡ offerOf u flow bytes
     unfolding offerOf firstOf
-    offer-4 o b = rw (le-ltb 15 flow h, o, b)
+    offer-15 o b = rw (le-ltb 15 flow h, o, b)
 
     -- k is the flow's first free place
     module _ (o : not (flowAt u flow .opened) ≡ false) (b : badLength bytes ≡ false)

@@ -8,7 +8,7 @@ use lib.Dec.{ltb, leb, eqb}
 use Rattle.units.specs.Limits.{tagLimit, badWeight, badLength}
 use Rattle.units.specs.Refusals.{firstOf}
 use Rattle.units.specs.declared.Refusal.{Refusal}
-use Rattle.units.specs.declared.Refusal.the-variants.{NoSuchFlow, NotOpen, AlreadyOpen, BeyondLimit, PlacesFull, TagsUsedUp, PacketInService, NothingWaits, NothingInService, FlowInUse}
+use Rattle.units.specs.declared.Refusal.the-variants.{NoSuchFlow, NotOpen, AlreadyOpen, PlacesFull, TagsUsedUp, PacketInService, NothingWaits, NothingInService, FlowInUse, BadWeight, BadLength}
 use Rattle.places.specs.Choice.{Choice, nothing, at}
 use Rattle.tags.specs.declared.Packet.{Packet}
 use Rattle.tags.specs.Tags.{finishAt}
@@ -23,10 +23,10 @@ module _ (u : Fair) (P : Done → Type 0) (no : (r : Refusal) → P (refused u r
   open-cases flow weight ok = go (ltb 15 flow) refl (flowAt u flow .opened) refl (badWeight weight) refl
     where
       go : (a : Bool) → ltb 15 flow ≡ a → (b : Bool) → flowAt u flow .opened ≡ b → (d : Bool) → badWeight weight ≡ d
-          → P (unless u (cond a (some NoSuchFlow) (cond b (some AlreadyOpen) (cond d (some BeyondLimit) none))) (opened u flow weight))
+          → P (unless u (cond a (some NoSuchFlow) (cond b (some AlreadyOpen) (cond d (some BadWeight) none))) (opened u flow weight))
       go true p b o d q = no NoSuchFlow
       go false p true o d q = no AlreadyOpen
-      go false p false o true q = no BeyondLimit
+      go false p false o true q = no BadWeight
       go false p false o false q = ok (ltb-false 15 flow p) o q
 
   pub close-cases : (flow : ℕ) → (flow ≤ 15 → waitingOf u flow ≤ 0 → busyWith (u .service) flow ≡ false → P (closed u flow)) → P (closeOf u flow)
@@ -53,11 +53,11 @@ module _ (u : Fair) (P : Done → Type 0) (no : (r : Refusal) → P (refused u r
       go : (a : Bool) → ltb 15 flow ≡ a → (b : Bool) → flowAt u flow .opened ≡ b → (c : Bool) → badLength length ≡ c → (d : Bool) → leb 16 (waitingOf u flow) ≡ d
           → (e : Bool) → ltb tagLimit (finishAt (startOf u flow) length (flowAt u flow .weight)) ≡ e → (f : Bool) → ltb tagLimit (flowAt u flow .next) ≡ f
           → P (unless u
-          (cond a (some NoSuchFlow) (cond (not b) (some NotOpen) (cond c (some BeyondLimit) (cond d (some PlacesFull) (cond (e || f) (some TagsUsedUp) none)))))
+          (cond a (some NoSuchFlow) (cond (not b) (some NotOpen) (cond c (some BadLength) (cond d (some PlacesFull) (cond (e || f) (some TagsUsedUp) none)))))
           (accepted u flow length))
       go true p b o c q d r e s f t = no NoSuchFlow
       go false p false o c q d r e s f t = no NotOpen
-      go false p true o true q d r e s f t = no BeyondLimit
+      go false p true o true q d r e s f t = no BadLength
       go false p true o false q true r e s f t = no PlacesFull
       go false p true o false q false r true s f t = no TagsUsedUp
       go false p true o false q false r false s true t = no TagsUsedUp

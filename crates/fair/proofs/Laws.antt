@@ -5,7 +5,7 @@ use mathlib.Core.List.{[], _∷_}
 use Prim.Native.Nat.{ℕ}
 use native.Mathlib.Omega.{arith}
 use lib.Dec.{eqb}
-use Rattle.units.specs.Refusals.{risesFrom, firstOf}
+use Rattle.units.specs.Refusals.{firstOf}
 use Rattle.units.specs.declared.Refusal.the-variants.{PacketInService, NothingWaits}
 use Rattle.places.specs.Choice.{Choice, nothing, at, Leads}
 use Rattle.places.proofs.Least.{leads}
@@ -14,7 +14,7 @@ use Rattle.tags.specs.Tags.{freePacket, isHeld}
 use Rattle.fair.specs.declared.Answer.the-variants.{Begun}
 use Rattle.fair.specs.Lane.{keyOf, waiting, chosen}
 use Rattle.fair.specs.Calls.{unless, begun, beginOf}
-use Rattle.fair.specs.Laws.{Taken, BeginsFirst, GroundsRise}
+use Rattle.fair.specs.Laws.{Taken, BeginsFirst}
 
 pub begins-first : BeginsFirst
 unfolding beginOf firstOf
@@ -36,7 +36,3 @@ begins-first u flow number bytes start = go (u .service .busy) (eqb (waiting u) 
           start-told = rw (l .1) (cc);
           goes-first = rw (l .1) (l .3);
         }
-
-pub grounds-rise : GroundsRise
-unfolding risesFrom
-grounds-rise u = (refl, refl)

@@ -5,7 +5,7 @@ use mathlib.Core.Option.{some}
 use Prim.Native.Nat.{ℕ, _<_}
 use lib.ListN.{length, getD}
 use Rattle.units.specs.Limits.{placeCount}
-use Rattle.units.specs.Refusals.{Rises, firstOf}
+use Rattle.units.specs.Refusals.{firstOf}
 use Rattle.units.specs.declared.Refusal.{Refusal}
 use Rattle.units.specs.declared.Tag.{Tag}
 use Rattle.places.specs.Places.{flowOf}
@@ -55,7 +55,3 @@ pub record RefusedSame (u : Fair) (r : Refusal) : Type 0 where
   pub offering : (flow length : ℕ) → refusalIn (offerOf u flow length .answer) ≡ some r → offerOf u flow length .lane ≡ u
   pub beginning : refusalIn (beginOf u .answer) ≡ some r → beginOf u .lane ≡ u
   pub ending : refusalIn (endOf u .answer) ≡ some r → endOf u .lane ≡ u
-
--- The numbers of begin's and of end's refusals rise, so that the first whose condition holds is the lowest; tags has opening, closing and offering.
-abbrev pub GroundsRise : Type 0
-GroundsRise = (u : Fair) → Rises (beginGrounds u) × Rises (endGrounds u)

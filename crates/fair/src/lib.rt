@@ -105,7 +105,7 @@ impl Fair {
         if units::bad_weight(weight) {
             return Done {
                 lane: self,
-                answer: Answer::Refused(Refusal::BeyondLimit),
+                answer: Answer::Refused(Refusal::BadWeight),
             };
         }
         let finish = was.finish;

@@ -34,7 +34,7 @@ impl Fair {
         if units::bad_length(length) {
             return Done {
                 lane: self,
-                answer: Answer::Refused(Refusal::BeyondLimit),
+                answer: Answer::Refused(Refusal::BadLength),
             };
         }
         let mut packets = self.packets;

@@ -6,7 +6,7 @@ use Prim.Native.Nat.{ℕ}
 use lib.Dec.{leb, ltb, eqb}
 use Rattle.units.specs.Limits.{placeCount, tagLimit, noSuchFlow, badWeight, badLength}
 use Rattle.units.specs.Refusals.{Ground, firstOf}
-use Rattle.units.specs.declared.Refusal.the-variants.{NoSuchFlow, NotOpen, AlreadyOpen, BeyondLimit, PlacesFull, TagsUsedUp, PacketInService, NothingWaits, NothingInService, FlowInUse}
+use Rattle.units.specs.declared.Refusal.the-variants.{NoSuchFlow, NotOpen, AlreadyOpen, PlacesFull, TagsUsedUp, PacketInService, NothingWaits, NothingInService, FlowInUse, BadWeight, BadLength}
 use Rattle.places.specs.Places.{count}
 use Rattle.places.specs.Marks.{openIn}
 use Rattle.fair.specs.declared.Fair.{Fair}
@@ -22,7 +22,7 @@ waitingIn h flow = count (λ (a : Packet). eqb (a .flow) flow && waits h a) (h .
 -- open: opened and not closed since; waiting: accepted and not begun; in service: a begin answered and no end since
 abbrev pub openingTold : Packets → ℕ → ℕ → List Ground
 openingTold h flow weight =
-    (NoSuchFlow, noSuchFlow flow) ∷ (AlreadyOpen, openIn (h .marks) flow) ∷ (BeyondLimit, badWeight weight) ∷ []
+    (NoSuchFlow, noSuchFlow flow) ∷ (AlreadyOpen, openIn (h .marks) flow) ∷ (BadWeight, badWeight weight) ∷ []
 
 abbrev pub closingTold : Packets → ℕ → List Ground
 closingTold h flow =
@@ -35,7 +35,7 @@ abbrev pub offeringTold : Packets → ℕ → ℕ → List Ground
 offeringTold h flow length =
     (NoSuchFlow, noSuchFlow flow)
     ∷ (NotOpen, not (openIn (h .marks) flow))
-    ∷ (BeyondLimit, badLength length)
+    ∷ (BadLength, badLength length)
     ∷ (PlacesFull, leb placeCount (waitingIn h flow))
     ∷ (TagsUsedUp, ltb tagLimit (finishTag h flow length) || ltb tagLimit (acceptedOf h flow))
     ∷ []

@@ -6,7 +6,7 @@ use Prim.Native.Nat.{ℕ, _+_}
 use lib.Dec.{leb, ltb}
 use Rattle.units.specs.Limits.{placeCount, slotLimit, noSuchFlow, badDeadline}
 use Rattle.units.specs.Refusals.{Ground, firstOf}
-use Rattle.units.specs.declared.Refusal.the-variants.{NoSuchFlow, NotOpen, AlreadyOpen, BeyondLimit, PlacesFull, SlotsUsedUp, FlowInUse}
+use Rattle.units.specs.declared.Refusal.the-variants.{NoSuchFlow, NotOpen, AlreadyOpen, PlacesFull, SlotsUsedUp, FlowInUse, BadDeadline}
 use Rattle.places.specs.Marks.{openIn}
 use Rattle.urgent.specs.declared.Urgent.{Urgent}
 use Rattle.urgent.specs.Answers.{refusalIn}
@@ -17,7 +17,7 @@ use Rattle.promises_urgent.specs.Promised.{waitingIn}
 -- open: opened and not closed since; waiting: accepted, not sent, last slot not gone by; the slot: the turns so far
 abbrev pub openingTold : Cells → ℕ → ℕ → List Ground
 openingTold h flow deadline =
-    (NoSuchFlow, noSuchFlow flow) ∷ (AlreadyOpen, openIn (h .marks) flow) ∷ (BeyondLimit, badDeadline deadline) ∷ []
+    (NoSuchFlow, noSuchFlow flow) ∷ (AlreadyOpen, openIn (h .marks) flow) ∷ (BadDeadline, badDeadline deadline) ∷ []
 
 abbrev pub closingTold : Cells → ℕ → List Ground
 closingTold h flow =

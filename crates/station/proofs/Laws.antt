@@ -1,7 +1,6 @@
 -- The station's laws, from the lanes'.
 use mathlib.Core.Path.{_≡_, refl, ap, _∙_}
 use mathlib.Core.Bool.{true, false, true≢false, false≢true}
-use Rattle.units.specs.Refusals.{risesFrom}
 use Rattle.units.specs.Answers.{numberIn}
 use Rattle.urgent.specs.declared.Answer.{Answer as UrgentAnswer}
 use Rattle.urgent.specs.declared.Answer.the-variants.{Refused, Opened, Closed, Accepted, Sent, Idle}
@@ -22,7 +21,7 @@ use Rattle.station.specs.declared.Reply.{Reply}
 use Rattle.station.specs.declared.Reply.the-variants.{Urgent, Fair}
 use Rattle.station.specs.Answers.{told, refusalIn}
 use Rattle.station.specs.Calls.{callOf}
-use Rattle.station.specs.Laws.{RefusedFirst, NumberTold, GroundsRise, RefusedSame, isUrgent, LanesApart}
+use Rattle.station.specs.Laws.{RefusedFirst, NumberTold, GroundsInOrder, RefusedSame, isUrgent, LanesApart}
 
 pub refused-first : RefusedFirst
 unfolding callOf
@@ -60,18 +59,17 @@ reply-number (Fair a) = fair-number a
 pub number-told : NumberTold
 number-told s call = reply-number (callOf s call .reply) ∙ ap numberIn (refused-first s call)
 
-pub grounds-rise : GroundsRise
-unfolding risesFrom
-grounds-rise s (OpenUrgent flow deadline) = refl
-grounds-rise s (OpenFair flow weight) = refl
-grounds-rise s (CloseUrgent flow) = refl
-grounds-rise s (CloseFair flow) = refl
-grounds-rise s (OfferCell flow) = refl
-grounds-rise s (OfferPacket flow length) = refl
-grounds-rise s OpenTurn = refl
-grounds-rise s LostTurn = refl
-grounds-rise s Begin = refl
-grounds-rise s End = refl
+pub grounds-in-order : GroundsInOrder
+grounds-in-order s (OpenUrgent flow deadline) = refl
+grounds-in-order s (OpenFair flow weight) = refl
+grounds-in-order s (CloseUrgent flow) = refl
+grounds-in-order s (CloseFair flow) = refl
+grounds-in-order s (OfferCell flow) = refl
+grounds-in-order s (OfferPacket flow length) = refl
+grounds-in-order s OpenTurn = refl
+grounds-in-order s LostTurn = refl
+grounds-in-order s Begin = refl
+grounds-in-order s End = refl
 
 -- a station with one lane as it was
 urgent-back : (s : Station) (u : UrgentLane) → u ≡ s .urgent → record { urgent = u; fair = s .fair } ≡ s

@@ -1,9 +1,10 @@
 -- What holds of every call in every state.
 use mathlib.Core.Path.{_≡_}
 use mathlib.Core.Bool.{Bool, true, false}
-use mathlib.Core.List.{List}
+use mathlib.Core.List.{List, [], _∷_, map}
 use mathlib.Core.Option.{some}
-use Rattle.units.specs.Refusals.{Ground, firstOf, Rises}
+use Prim.Native.Nat.{ℕ}
+use Rattle.units.specs.Refusals.{Ground, numberOf, firstOf}
 use Rattle.units.specs.Answers.{numberIn}
 use Rattle.units.specs.declared.Refusal.{Refusal}
 use Rattle.urgent.specs.Lane.{openingGrounds as urgentOpening, closingGrounds as urgentClosing, offeringGrounds as cellOffering, turnGrounds}
@@ -36,9 +37,22 @@ RefusedFirst = (s : Station) (call : Call) → refusalIn (callOf s call .reply) 
 abbrev pub NumberTold : Type 0
 NumberTold = (s : Station) (call : Call) → told (callOf s call .reply) .number ≡ numberIn (firstOf (groundsOf s call))
 
--- The numbers of every call's grounds rise, so that the first that holds is the lowest.
-abbrev pub GroundsRise : Type 0
-GroundsRise = (s : Station) (call : Call) → Rises (groundsOf s call)
+-- the numbers that a call can be refused with, each given only where none before it is
+abbrev pub orderOf : Call → List ℕ
+orderOf (OpenUrgent flow deadline) = 1 ∷ 3 ∷ 14 ∷ []
+orderOf (OpenFair flow weight) = 1 ∷ 3 ∷ 13 ∷ []
+orderOf (CloseUrgent flow) = 1 ∷ 2 ∷ 12 ∷ []
+orderOf (CloseFair flow) = 1 ∷ 2 ∷ 12 ∷ []
+orderOf (OfferCell flow) = 1 ∷ 2 ∷ 5 ∷ 7 ∷ []
+orderOf (OfferPacket flow length) = 1 ∷ 2 ∷ 15 ∷ 5 ∷ 6 ∷ []
+orderOf OpenTurn = 7 ∷ []
+orderOf LostTurn = 7 ∷ []
+orderOf Begin = 8 ∷ 9 ∷ []
+orderOf End = 10 ∷ []
+
+-- The grounds of every call stand in the order of these numbers.
+abbrev pub GroundsInOrder : Type 0
+GroundsInOrder = (s : Station) (call : Call) → map (λ (g : Ground). numberOf (g .0)) (groundsOf s call) ≡ orderOf call
 
 -- A refused call leaves the station as it was.
 abbrev pub RefusedSame : Type 0

@@ -4,16 +4,16 @@ use mathlib.Core.List.{List, [], _∷_, _++_}
 use Prim.Native.Nat.{ℕ}
 use lib.Dec.{ltb, leb}
 use Rattle.units.specs.Limits.{placeCount, tagLimit, noSuchFlow, badWeight, badLength}
-use Rattle.units.specs.Refusals.{Ground, Rises}
+use Rattle.units.specs.Refusals.{Ground}
 use Rattle.units.specs.declared.Tag.{Tag}
-use Rattle.units.specs.declared.Refusal.the-variants.{NoSuchFlow, NotOpen, AlreadyOpen, BeyondLimit, PlacesFull, TagsUsedUp, FlowInUse}
+use Rattle.units.specs.declared.Refusal.the-variants.{NoSuchFlow, NotOpen, AlreadyOpen, PlacesFull, TagsUsedUp, FlowInUse, BadWeight, BadLength}
 use Rattle.tags.specs.declared.Flow.{Flow}
 use Rattle.tags.specs.Tags.{finishAt}
 
 -- opening a flow of this number with a weight, over the flow's record
 abbrev pub openingGrounds : ℕ → ℕ → Flow → List Ground
 openingGrounds flow weight was =
-    (NoSuchFlow, noSuchFlow flow) ∷ (AlreadyOpen, was .opened) ∷ (BeyondLimit, badWeight weight) ∷ []
+    (NoSuchFlow, noSuchFlow flow) ∷ (AlreadyOpen, was .opened) ∷ (BadWeight, badWeight weight) ∷ []
 
 -- closing a flow of which so many packets wait, and of which one may be in service
 abbrev pub closingGrounds : ℕ → Flow → ℕ → Bool → List Ground
@@ -25,7 +25,7 @@ abbrev pub waitingGrounds : ℕ → Flow → ℕ → ℕ → List Ground
 waitingGrounds flow was waiting length =
     (NoSuchFlow, noSuchFlow flow)
     ∷ (NotOpen, not (was .opened))
-    ∷ (BeyondLimit, badLength length)
+    ∷ (BadLength, badLength length)
     ∷ (PlacesFull, leb placeCount waiting)
     ∷ []
 
@@ -36,12 +36,3 @@ tagGround was start length = (TagsUsedUp, ltb tagLimit (finishAt start length (w
 -- offering where tags are given at the offer
 abbrev pub offeringGrounds : ℕ → Flow → ℕ → Tag → ℕ → List Ground
 offeringGrounds flow was waiting start length = waitingGrounds flow was waiting length ++ tagGround was start length ∷ []
-
--- The numbers of opening's, of closing's and of offering's refusals rise, so that the first whose condition holds is the lowest.
-abbrev pub GroundsRise : Type 0
-GroundsRise =
-    (flow weight : ℕ) (was : Flow) (waiting : ℕ) (served : Bool) (start : Tag) (length : ℕ)
-    → Rises (openingGrounds flow weight was)
-    × Rises (closingGrounds flow was waiting served)
-    × Rises (waitingGrounds flow was waiting length)
-    × Rises (offeringGrounds flow was waiting start length)

@@ -20,7 +20,6 @@ pub enum Refusal {
     NoSuchFlow,
     NotOpen,
     AlreadyOpen,
-    BeyondLimit,
     PlacesFull,
     TagsUsedUp,
     SlotsUsedUp,
@@ -29,6 +28,12 @@ pub enum Refusal {
     NothingInService,
     NoCommand,
     FlowInUse,
+    BadWeight,
+    BadDeadline,
+    BadLength,
+    ListTooLong,
+    BadBurst,
+    BadPeriod,
 }
 
 // The highest flow number, the first slot number that no turn has, and the largest tag.
@@ -67,7 +72,6 @@ impl Refusal {
             Refusal::NoSuchFlow => 1,
             Refusal::NotOpen => 2,
             Refusal::AlreadyOpen => 3,
-            Refusal::BeyondLimit => 4,
             Refusal::PlacesFull => 5,
             Refusal::TagsUsedUp => 6,
             Refusal::SlotsUsedUp => 7,
@@ -76,6 +80,12 @@ impl Refusal {
             Refusal::NothingInService => 10,
             Refusal::NoCommand => 11,
             Refusal::FlowInUse => 12,
+            Refusal::BadWeight => 13,
+            Refusal::BadDeadline => 14,
+            Refusal::BadLength => 15,
+            Refusal::ListTooLong => 16,
+            Refusal::BadBurst => 17,
+            Refusal::BadPeriod => 18,
         }
     }
 }

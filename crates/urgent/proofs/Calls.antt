@@ -8,7 +8,7 @@ use borrow.Author.Tests.{lt-ltb, le-ltb, le-leb, lt-leb}
 use lib.ListN.{length, set}
 use Rattle.units.specs.Limits.{placeCount, slotLimit, badDeadline}
 use Rattle.units.specs.Refusals.{firstOf}
-use Rattle.units.specs.declared.Refusal.the-variants.{NoSuchFlow, NotOpen, AlreadyOpen, BeyondLimit, PlacesFull, SlotsUsedUp, FlowInUse}
+use Rattle.units.specs.declared.Refusal.the-variants.{NoSuchFlow, NotOpen, AlreadyOpen, PlacesFull, SlotsUsedUp, FlowInUse, BadDeadline}
 use Rattle.places.specs.Places.{count, placesOf, firstFree, clearedAll}
 use Rattle.places.specs.Choice.{nothing, at}
 use Rattle.places.proofs.Free.{part-full, part-room}
@@ -29,9 +29,9 @@ module _ (u : Urgent) (flow deadline : ℕ) where
     unfolding openOf firstOf
     open-3 o = rw (le-ltb 15 flow h, o)
 
-    pub open-4 : flowAt u flow .opened ≡ false → badDeadline deadline ≡ true → refused u BeyondLimit ≡ openOf u flow deadline
+    pub open-14 : flowAt u flow .opened ≡ false → badDeadline deadline ≡ true → refused u BadDeadline ≡ openOf u flow deadline
     unfolding openOf firstOf
-    open-4 o d = rw (le-ltb 15 flow h, o, d)
+    open-14 o d = rw (le-ltb 15 flow h, o, d)
 
     pub open-ok : flowAt u flow .opened ≡ false → badDeadline deadline ≡ false → opened u flow deadline ≡ openOf u flow deadline
     unfolding openOf firstOf

@@ -8,7 +8,7 @@ use lib.Dec.{ltb, leb}
 use Rattle.units.specs.Limits.{slotLimit, badDeadline}
 use Rattle.units.specs.Refusals.{firstOf}
 use Rattle.units.specs.declared.Refusal.{Refusal}
-use Rattle.units.specs.declared.Refusal.the-variants.{NoSuchFlow, NotOpen, AlreadyOpen, BeyondLimit, PlacesFull, SlotsUsedUp, FlowInUse}
+use Rattle.units.specs.declared.Refusal.the-variants.{NoSuchFlow, NotOpen, AlreadyOpen, PlacesFull, SlotsUsedUp, FlowInUse, BadDeadline}
 use Rattle.urgent.specs.declared.Urgent.{Urgent}
 use Rattle.urgent.specs.declared.Done.{Done}
 use Rattle.urgent.specs.Lane.{flowAt, waitingOf}
@@ -20,10 +20,10 @@ module _ (u : Urgent) (P : Done → Type 0) (no : (r : Refusal) → P (refused u
   open-cases flow deadline ok = go (ltb 15 flow) refl (flowAt u flow .opened) refl (badDeadline deadline) refl
     where
       go : (a : Bool) → ltb 15 flow ≡ a → (b : Bool) → flowAt u flow .opened ≡ b → (d : Bool) → badDeadline deadline ≡ d
-          → P (unless u (cond a (some NoSuchFlow) (cond b (some AlreadyOpen) (cond d (some BeyondLimit) none))) (opened u flow deadline))
+          → P (unless u (cond a (some NoSuchFlow) (cond b (some AlreadyOpen) (cond d (some BadDeadline) none))) (opened u flow deadline))
       go true p b o d q = no NoSuchFlow
       go false p true o d q = no AlreadyOpen
-      go false p false o true q = no BeyondLimit
+      go false p false o true q = no BadDeadline
       go false p false o false q = ok (ltb-false 15 flow p) o q
 
   pub close-cases : (flow : ℕ) → (flow ≤ 15 → waitingOf u flow ≤ 0 → P (closed u flow)) → P (closeOf u flow)

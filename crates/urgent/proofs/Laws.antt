@@ -3,7 +3,7 @@ use mathlib.Core.Path.{_≡_, refl, sym, _∙_}
 use mathlib.Core.Option.{Option, none, some}
 use Prim.Native.Nat.{ℕ}
 use native.Mathlib.Omega.{arith}
-use Rattle.units.specs.Refusals.{firstOf, risesFrom}
+use Rattle.units.specs.Refusals.{firstOf}
 use Rattle.units.specs.declared.Refusal.{Refusal}
 use Rattle.places.specs.Choice.{Choice, nothing, at}
 use Rattle.places.proofs.Least.{leads}
@@ -13,7 +13,7 @@ use Rattle.urgent.specs.declared.Done.{Done}
 use Rattle.urgent.specs.Lane.{freeCell, isHeld, keyOf, openingGrounds, closingGrounds, offeringGrounds, turnGrounds}
 use Rattle.urgent.specs.Calls.{unless, opened, openOf, closed, closeOf, accepted, offerOf, chosen, turned, turnOf}
 use Rattle.urgent.specs.Answers.{refusalIn}
-use Rattle.urgent.specs.Laws.{SendsFirst, RefusedFirst, RefusedSame, GroundsRise}
+use Rattle.urgent.specs.Laws.{SendsFirst, RefusedFirst, RefusedSame}
 
 pub sends-first : SendsFirst
 sends-first u = leads isHeld keyOf freeCell refl (u .cells)
@@ -52,7 +52,3 @@ refused-same u r =
       offering = λ flow. unless-same u (firstOf (offeringGrounds u flow)) (accepted u flow) refl r;
       turning = λ usable. unless-same u (firstOf (turnGrounds u)) (turned u (chosen u usable)) (turned-taken u (chosen u usable)) r;
     }
-
-pub grounds-rise : GroundsRise
-unfolding risesFrom
-grounds-rise u flow deadline = (refl, refl, refl, refl)

@@ -6,7 +6,7 @@ use lib.Dec.{ltb, leb, eqb}
 use lib.ListN.{getD, replicate}
 use Rattle.units.specs.Limits.{placeCount, slotLimit, noSuchFlow, badDeadline}
 use Rattle.units.specs.Refusals.{Ground}
-use Rattle.units.specs.declared.Refusal.the-variants.{NoSuchFlow, NotOpen, AlreadyOpen, BeyondLimit, PlacesFull, SlotsUsedUp, FlowInUse}
+use Rattle.units.specs.declared.Refusal.the-variants.{NoSuchFlow, NotOpen, AlreadyOpen, PlacesFull, SlotsUsedUp, FlowInUse, BadDeadline}
 use Rattle.places.specs.Places.{count, placesOf, flowOf}
 use Rattle.places.specs.Choice.{Key}
 use Rattle.urgent.specs.declared.Cell.{Cell}
@@ -46,7 +46,7 @@ lastIs now c = c .held && eqb (c .last .0) now
 -- the refusals of each call, in the order in which they are given
 abbrev pub openingGrounds : Urgent → ℕ → ℕ → List Ground
 openingGrounds u flow deadline =
-    (NoSuchFlow, noSuchFlow flow) ∷ (AlreadyOpen, flowAt u flow .opened) ∷ (BeyondLimit, badDeadline deadline) ∷ []
+    (NoSuchFlow, noSuchFlow flow) ∷ (AlreadyOpen, flowAt u flow .opened) ∷ (BadDeadline, badDeadline deadline) ∷ []
 
 abbrev pub closingGrounds : Urgent → ℕ → List Ground
 closingGrounds u flow =

@@ -3,7 +3,7 @@ use mathlib.Core.Path.{_≡_}
 use mathlib.Core.Bool.{Bool, true}
 use mathlib.Core.Option.{some}
 use Prim.Native.Nat.{ℕ}
-use Rattle.units.specs.Refusals.{Rises, firstOf}
+use Rattle.units.specs.Refusals.{firstOf}
 use Rattle.units.specs.declared.Refusal.{Refusal}
 use Rattle.places.specs.Choice.{Leads}
 use Rattle.urgent.specs.declared.Urgent.{Urgent}
@@ -28,9 +28,3 @@ pub record RefusedSame (u : Urgent) (r : Refusal) : Type 0 where
   pub closing : (flow : ℕ) → refusalIn (closeOf u flow .answer) ≡ some r → closeOf u flow .lane ≡ u
   pub offering : (flow : ℕ) → refusalIn (offerOf u flow .answer) ≡ some r → offerOf u flow .lane ≡ u
   pub turning : (usable : Bool) → refusalIn (turnOf u usable .answer) ≡ some r → turnOf u usable .lane ≡ u
-
--- The numbers of each call's refusals rise, so that the first whose condition holds is the lowest.
-abbrev pub GroundsRise : Type 0
-GroundsRise =
-    (u : Urgent) (flow deadline : ℕ)
-    → Rises (openingGrounds u flow deadline) × Rises (closingGrounds u flow) × Rises (offeringGrounds u flow) × Rises (turnGrounds u)

@@ -95,7 +95,7 @@ impl Urgent {
         if units::bad_deadline(deadline) {
             return Done {
                 lane: self,
-                answer: Answer::Refused(Refusal::BeyondLimit),
+                answer: Answer::Refused(Refusal::BadDeadline),
             };
         }
         flows[f] = Flow {

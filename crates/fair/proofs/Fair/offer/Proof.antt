@@ -10,7 +10,7 @@ use Rattle.units.specs.Limits.{badLength}
 use Rattle.places.specs.Places.{firstFree, placesOf}
 use Rattle.places.proofs.Free.{scan-starts, scan-free, scan-held, scan-ends}
 use Rattle.tags.specs.Tags.{isHeld, freePacket}
-use Rattle.fair.proofs.Calls.{offer-1, offer-2, offer-4, offer-5, offer-6-number, offer-6-finish, offer-ok}
+use Rattle.fair.proofs.Calls.{offer-1, offer-2, offer-15, offer-5, offer-6-number, offer-6-finish, offer-ok}
 use Rattle.fair.proofs.Fair.offer.Statement.{statement}
 use Rattle.fair.proofs.Fair.offer.Tie as tie
 
@@ -62,7 +62,7 @@ bad-length-requires c κs = search needs
 returns-3 : tie.Need-returns-3 Inv-loop μ-loop
 returns-3 c =
     let s = c .before .before .before .before .before .before .before .args in
-    offer-4 (s .self) (s .flow) (s .length) (search needs) (c .before .before .if2 .left) (sym (c .before .bad-length .ensures) ∙ c .if3 .taken)
+    offer-15 (s .self) (s .flow) (s .length) (search needs) (c .before .before .if2 .left) (sym (c .before .bad-length .ensures) ∙ c .if3 .taken)
 
 loop-holds : tie.Need-loop-holds Inv-loop μ-loop
 loop-holds c =

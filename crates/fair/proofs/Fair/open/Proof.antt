@@ -1,7 +1,7 @@
 -- `Fair::open` meets its contract: each return is the case of `openOf` that its tests lead to.
 use mathlib.Core.Path.{sym, _∙_}
 use borrow.Author.Needs.{needs}
-use Rattle.fair.proofs.Calls.{open-1, open-3, open-4, open-ok}
+use Rattle.fair.proofs.Calls.{open-1, open-3, open-13, open-ok}
 use Rattle.fair.proofs.Fair.open.Statement.{statement}
 use Rattle.fair.proofs.Fair.open.Tie as tie
 
@@ -23,7 +23,7 @@ bad-weight-requires c κs = search needs
 returns-3 : tie.Need-returns-3
 returns-3 c =
     let s = c .before .before .before .before .before .before .args in
-    open-4 (s .self) (s .flow) (s .weight) (search needs) (c .before .before .if2 .left) (sym (c .before .bad-weight .ensures) ∙ c .if3 .taken)
+    open-13 (s .self) (s .flow) (s .weight) (search needs) (c .before .before .if2 .left) (sym (c .before .bad-weight .ensures) ∙ c .if3 .taken)
 
 mul-flows : tie.Need-mul-flows
 mul-flows c = search needs

@@ -1,7 +1,7 @@
 -- `Urgent::open` meets its contract: each return is the case of `openOf` that its tests lead to.
 use mathlib.Core.Path.{sym, _∙_}
 use borrow.Author.Needs.{needs}
-use Rattle.urgent.proofs.Calls.{open-1, open-3, open-4, open-ok}
+use Rattle.urgent.proofs.Calls.{open-1, open-3, open-14, open-ok}
 use Rattle.urgent.proofs.Urgent.open.Statement.{statement}
 use Rattle.urgent.proofs.Urgent.open.Tie as tie
 
@@ -21,7 +21,7 @@ bad-deadline-requires : tie.Need-bad-deadline-requires
 bad-deadline-requires c κs = search needs
 
 returns-3 : tie.Need-returns-3
-returns-3 c = let s = c .before .before .before .before .before .before .args in open-4 (s .self) (s .flow) (s .deadline) (search needs) (c .before .before .if2 .left) (sym (c .before .bad-deadline .ensures) ∙ c .if3 .taken)
+returns-3 c = let s = c .before .before .before .before .before .before .args in open-14 (s .self) (s .flow) (s .deadline) (search needs) (c .before .before .if2 .left) (sym (c .before .bad-deadline .ensures) ∙ c .if3 .taken)
 
 mul-flows : tie.Need-mul-flows
 mul-flows c = search needs
