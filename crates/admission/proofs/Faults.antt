@@ -1,75 +1,91 @@
--- What a list without a fault is, and the verdict by the grounds of refusal.
-use mathlib.Core.Path.{_≡_, refl, sym, _∙_}
-use mathlib.Core.Bool.{Bool, true, false, cond, _||_}
+-- A list's first fault: where it stands and why, what a list without one is, and the verdict by it.
+use mathlib.Core.Path.{_≡_, refl, sym, _∙_, ap}
+use mathlib.Core.Bool.{true, false}
 use mathlib.Core.List.{List, [], _∷_}
-use Prim.Native.Nat.{ℕ, zero, suc, _%_, _≤_, _<_}
+use mathlib.Core.Option.{Option, none, some}
+use Prim.Native.Nat.{ℕ, zero, suc, _+_, _≤_, _<_}
 use native.Mathlib.Nat.{le-of-suc-le-suc, not-suc-le-zero}
 use native.Mathlib.Omega.{arith}
 use lib.ListN.{length, getD}
 use lib.Seq.{getD-take, length-take-le}
-use borrow.Author.Tests.{ltb-false}
-use lib.Dec.{ltb}
-use Rattle.units.specs.Limits.{badDeadline}
 use Rattle.units.specs.Refusals.{firstOf}
-use Rattle.units.specs.declared.Refusal.the-variants.{BeyondLimit}
-use Rattle.units.proofs.Limits.{inside}
+use Rattle.units.specs.declared.Refusal.{Refusal}
+use Rattle.units.specs.declared.Refusal.the-variants.{ListTooLong}
 use Rattle.admission.specs.declared.Declaration.{Declaration}
 use Rattle.admission.specs.declared.Table.{Table}
-use Rattle.admission.specs.declared.Fault.the-variants.{Burst, Period, Deadline}
-use Rattle.admission.specs.declared.Verdict.the-variants.{Refused}
-use Rattle.admission.specs.Limits.{badBurst, badPeriod}
+use Rattle.admission.specs.declared.Fault.{Fault}
+use Rattle.admission.specs.declared.Fault.the-variants.{Nothing, At}
+use Rattle.admission.specs.declared.Verdict.the-variants.{Refused, RefusedAt}
 use Rattle.admission.specs.Tables.{noDeclaration, heldOf}
 use Rattle.admission.specs.Demand.{leastFailing, Lawful, Ready}
-use Rattle.admission.specs.Verdicts.{firstBad, isFault, someBad, horizon, judgedOf}
-use Rattle.admission.proofs.Limits.{neither}
+use Rattle.admission.specs.Verdicts.{numberGrounds, faultAt, firstBad, horizon, judgedOf}
+use Rattle.admission.specs.Published.{Within}
+use Rattle.admission.proofs.Limits.{positive}
+use Rattle.admission.proofs.Judged.{Judged, good, judged, good-taken}
 
--- the declaration has a number told bad, or what is told of the rest holds
-abbrev pub badOr : Declaration → Bool → Bool
-badOr d rest = badBurst (d .burst) || (badPeriod (d .period) || (badDeadline (d .deadline) || rest))
+-- every declaration of a list before its k-th is within its limits
+abbrev pub GoodTo : List Declaration → ℕ → Type 0
+GoodTo ds k = (i : ℕ) → i < k → Within (getD ds i noDeclaration)
 
--- a list has a fault where its first declaration has one or the others do
-pub fault-cons : (k : ℕ) (d : Declaration) (ds : List Declaration) → isFault (firstBad k (d ∷ ds)) ≡ badOr d (isFault (firstBad (suc k) ds))
+good-cons : (d : Declaration) (ds : List Declaration) (k : ℕ) → Within d → GoodTo ds k → GoodTo (d ∷ ds) (suc k)
+good-cons d ds k w ws zero l = w
+good-cons d ds k w ws (suc i) l = ws i (le-of-suc-le-suc l)
+
+-- the first fault of declarations in the places from j on, and why it is the first
+pub data Found (j : ℕ) (ds : List Declaration) : Fault → Type 0 where
+  nothing : GoodTo ds (length ds) → Found j ds Nothing
+  one : (refusal : Refusal) (k place : ℕ) → place ≡ j + k → k < length ds → GoodTo ds k → Judged (getD ds k noDeclaration) (some refusal) → Found j ds (At refusal place)
+
+found-cons : (j : ℕ) (d : Declaration) (ds : List Declaration) (o : Option Refusal) → Judged d o → (f : Fault) → Found (suc j) ds f → Found j (d ∷ ds) (faultAt j o f)
+found-cons j d ds none (good w) _ (nothing ws) = nothing (good-cons d ds (length ds) w ws)
+found-cons j d ds none (good w) _ (one refusal k place e l ws x) =
+    one refusal (suc k) place (omega arith) (omega arith) (good-cons d ds k w ws) x
+found-cons j d ds (some refusal) x f later = one refusal 0 j (omega arith) (omega arith) (λ i l. absurd (not-suc-le-zero l)) x
+
+pub found : (j : ℕ) (ds : List Declaration) → Found j ds (firstBad j ds)
 unfolding firstBad
-fault-cons k d ds = go (badBurst (d .burst)) (badPeriod (d .period)) (badDeadline (d .deadline))
-  where
-    go : (b p e : Bool) → isFault (cond b (Burst k) (cond p (Period k) (cond e (Deadline k) (firstBad (suc k) ds)))) ≡ (b || (p || (e || isFault (firstBad (suc k) ds))))
-    go true p e = refl
-    go false true e = refl
-    go false false true = refl
-    go false false false = refl
+found j [] = nothing (λ i l. absurd (not-suc-le-zero l))
+found j (d ∷ ds) = found-cons j d ds (firstOf (numberGrounds d)) (judged d) (firstBad (suc j) ds) (found (suc j) ds)
 
--- where none is told bad, the first can be summed, and the others have no fault
-no-fault : (d : Declaration) (rest : Bool) → badOr d rest ≡ false → Lawful d × (rest ≡ false)
-no-fault d rest e =
-    let b = neither (badBurst (d .burst)) (badPeriod (d .period) || (badDeadline (d .deadline) || rest)) e in
-    let p = neither (badPeriod (d .period)) (badDeadline (d .deadline) || rest) (b .1) in
-    let z = neither (ltb (d .period) 1) (ltb 0 (5040 % d .period)) (p .0) in
-    (record { burst16 = inside (d .burst) 16 (b .0) .1; period1 = ltb-false (d .period) 1 (z .0) }, neither (badDeadline (d .deadline)) rest (p .1) .1)
+-- and the other way: a list within its limits has none, and the first declaration that is refused is the first fault
+pub no-fault : (j : ℕ) (ds : List Declaration) → GoodTo ds (length ds) → firstBad j ds ≡ Nothing
+unfolding firstBad
+no-fault j [] ws = refl
+no-fault j (d ∷ ds) ws = rw (good-taken d (ws 0 (omega arith))) (no-fault (suc j) ds (λ i l. ws (suc i) (omega arith)))
 
--- every declaration of a list without a fault can be summed
-lawful-at : (j : ℕ) (ds : List Declaration) → isFault (firstBad j ds) ≡ false → (k : ℕ) → k < length ds → Lawful (getD ds k noDeclaration)
-lawful-at j [] e k l = absurd (not-suc-le-zero l)
-lawful-at j (d ∷ ds) e zero l = no-fault d (isFault (firstBad (suc j) ds)) (sym (fault-cons j d ds) ∙ e) .0
-lawful-at j (d ∷ ds) e (suc k) l = lawful-at (suc j) ds (no-fault d (isFault (firstBad (suc j) ds)) (sym (fault-cons j d ds) ∙ e) .1) k (le-of-suc-le-suc l)
+pub fault-at : (j : ℕ) (ds : List Declaration) (k : ℕ) (refusal : Refusal) → k < length ds → GoodTo ds k
+    → firstOf (numberGrounds (getD ds k noDeclaration)) ≡ some refusal → firstBad j ds ≡ At refusal (j + k)
+unfolding firstBad
+fault-at j [] k refusal l ws e = absurd (not-suc-le-zero l)
+fault-at j (d ∷ ds) zero refusal l ws e = rw e (ap (At refusal) (omega arith))
+fault-at j (d ∷ ds) (suc k) refusal l ws e =
+    rw (good-taken d (ws 0 (omega arith)))
+    (fault-at (suc j) ds k refusal (le-of-suc-le-suc l) (λ i m. ws (suc i) (omega arith)) e ∙ ap (At refusal) (omega arith))
 
--- a table of few declarations, none with a fault, can be summed
-pub ready : (table : Table) → length (table .items) ≡ 16 → table .count ≤ 16 → someBad (heldOf table) ≡ false → Ready table
+-- a declaration within its limits can be summed
+lawful : (d : Declaration) → Within d → Lawful d
+lawful d w = record { burst16 = w .0 .1; period1 = positive (d .period) (w .1 .0) (w .1 .1) }
+
+all-good : (ds : List Declaration) (f : Fault) → Found 0 ds f → f ≡ Nothing → GoodTo ds (length ds)
+all-good ds _ (nothing ws) e = ws
+all-good ds _ (one refusal k place q l ws x) e = let z : _≡_ {A = ℕ} 0 1 = cc in absurd (omega arith)
+
+-- a table of few declarations without a fault can be summed
+pub ready : (table : Table) → length (table .items) ≡ 16 → table .count ≤ 16 → firstBad 0 (heldOf table) ≡ Nothing → Ready table
 ready table len few e = record { few = few; lawful = λ k l. at k l }
   where
     at : (k : ℕ) → k < table .count → Lawful (getD (table .items) k noDeclaration)
     at k l =
         let m : length (heldOf table) ≡ table .count = length-take-le (table .count) (table .items) (omega arith) in
-        rw (getD-take (table .count) (table .items) k noDeclaration) at (lawful-at 0 (heldOf table) e k (omega arith))
+        let w = all-good (heldOf table) (firstBad 0 (heldOf table)) (found 0 (heldOf table)) e k (omega arith) in
+        lawful (getD (table .items) k noDeclaration) (rw (getD-take (table .count) (table .items) k noDeclaration l) at w)
 
 -- the verdict: too long, a fault, or the test's
-pub judged-long : (ds : List Declaration) → judgedOf true ds ≡ Refused BeyondLimit
-unfolding firstOf
+pub judged-long : (ds : List Declaration) → judgedOf true ds ≡ Refused ListTooLong
 judged-long ds = refl
 
-pub judged-bad : (ds : List Declaration) → someBad ds ≡ true → judgedOf false ds ≡ Refused BeyondLimit
-unfolding firstOf
-judged-bad ds e = rw e
+pub judged-bad : (ds : List Declaration) (refusal : Refusal) (k : ℕ) → firstBad 0 ds ≡ At refusal k → judgedOf false ds ≡ RefusedAt refusal k
+judged-bad ds refusal k e = rw e
 
-pub judged-good : (ds : List Declaration) → someBad ds ≡ false → judgedOf false ds ≡ leastFailing horizon ds
-unfolding firstOf
+pub judged-good : (ds : List Declaration) → firstBad 0 ds ≡ Nothing → judgedOf false ds ≡ leastFailing horizon ds
 judged-good ds e = rw e

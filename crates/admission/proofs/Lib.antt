@@ -1,7 +1,7 @@
 pub mod Limits
+pub mod Judged
 pub mod Loops
 pub mod Faults
 pub mod Gathered
-pub mod Beyond
 pub mod Searched
 pub mod Published

@@ -13,11 +13,13 @@ use mir.Val.{Val}
 use denote.Laws.{Is}
 use denote.Struct.Laws as LL
 use Rattle.units.specs.Limits.{badDeadline}
+use Rattle.units.specs.Refusals.{firstOf}
+use Rattle.units.specs.declared.Refusal.the-variants.{BadDeadline, BadBurst, BadPeriod}
 use Rattle.admission.proofs.Table as S
 use Rattle.admission.proofs.Table.Laws as S′
 use Rattle.admission.specs.declared.Declaration.{Declaration}
 use Rattle.admission.specs.declared.Table.{Table}
-use Rattle.admission.specs.declared.Fault.the-variants.{Burst, Period, Deadline}
+use Rattle.admission.specs.declared.Fault.the-variants.{At}
 use Rattle.admission.specs.declared.Verdict.the-variants.{Admitted, FailsAt}
 use Rattle.admission.specs.Limits.{badBurst, badPeriod}
 use Rattle.admission.specs.Tables.{noDeclaration, heldOf}
@@ -43,22 +45,22 @@ module _ (table : Table) (len : length (table .items) ≡ 16) (few : table .coun
     unfolding demandOf
     demand-next t = rw next
 
-    pub burst-stops : badBurst (getD (table .items) k noDeclaration .burst) ≡ true → firstBad k (drop k (heldOf table)) ≡ Burst k
-    unfolding firstBad
+    pub burst-stops : badBurst (getD (table .items) k noDeclaration .burst) ≡ true → firstBad k (drop k (heldOf table)) ≡ At BadBurst k
+    unfolding firstBad firstOf
     burst-stops e = rw (next, e)
 
     module _ (burst : badBurst (getD (table .items) k noDeclaration .burst) ≡ false) where
-      pub period-stops : badPeriod (getD (table .items) k noDeclaration .period) ≡ true → firstBad k (drop k (heldOf table)) ≡ Period k
-      unfolding firstBad
+      pub period-stops : badPeriod (getD (table .items) k noDeclaration .period) ≡ true → firstBad k (drop k (heldOf table)) ≡ At BadPeriod k
+      unfolding firstBad firstOf
       period-stops e = rw (next, burst, e)
 
       module _ (period : badPeriod (getD (table .items) k noDeclaration .period) ≡ false) where
-        pub deadline-stops : badDeadline (getD (table .items) k noDeclaration .deadline) ≡ true → firstBad k (drop k (heldOf table)) ≡ Deadline k
-        unfolding firstBad
+        pub deadline-stops : badDeadline (getD (table .items) k noDeclaration .deadline) ≡ true → firstBad k (drop k (heldOf table)) ≡ At BadDeadline k
+        unfolding firstBad firstOf
         deadline-stops e = rw (next, burst, period, e)
 
         pub good-next : badDeadline (getD (table .items) k noDeclaration .deadline) ≡ false → firstBad k (drop k (heldOf table)) ≡ firstBad (k + 1) (drop (k + 1) (heldOf table))
-        unfolding firstBad
+        unfolding firstBad firstOf
         good-next e = rw (next, burst, period, e, add-one)
 
 -- by slot t one declaration can have no more cells due than its burst and t

@@ -1,47 +1,41 @@
--- The verdict on a list: the first refusal that holds, else the smallest t that fails, else admitted.
-use mathlib.Core.Bool.{Bool, true, false, cond}
+-- The verdict on a list: refused if too long, else refused for the first bad number with its declaration's place, else the smallest t that fails, else admitted.
+use mathlib.Core.Bool.{Bool, cond}
 use mathlib.Core.List.{List, [], _∷_}
 use mathlib.Core.Option.{Option, none, some}
 use Prim.Native.Nat.{ℕ, suc}
 use lib.Dec.{ltb}
 use Rattle.units.specs.Limits.{badDeadline}
-use Rattle.units.specs.Refusals.{firstOf}
+use Rattle.units.specs.Refusals.{Ground, firstOf}
 use Rattle.units.specs.declared.Refusal.{Refusal}
-use Rattle.units.specs.declared.Refusal.the-variants.{BeyondLimit}
+use Rattle.units.specs.declared.Refusal.the-variants.{BadDeadline, ListTooLong, BadBurst, BadPeriod}
 use Rattle.admission.specs.Limits.{badBurst, badPeriod, tooLong}
 use Rattle.admission.specs.Tables.{heldOf}
 use Rattle.admission.specs.Demand.{leastFailing}
 use Rattle.admission.specs.declared.Declaration.{Declaration}
 use Rattle.admission.specs.declared.Table.{Table}
 use Rattle.admission.specs.declared.Fault.{Fault}
-use Rattle.admission.specs.declared.Fault.the-variants.{Nothing, Burst, Period, Deadline}
+use Rattle.admission.specs.declared.Fault.the-variants.{Nothing, At}
 use Rattle.admission.specs.declared.Verdict.{Verdict}
-use Rattle.admission.specs.declared.Verdict.the-variants.{Refused}
+use Rattle.admission.specs.declared.Verdict.the-variants.{Refused, RefusedAt}
 
--- the first number beyond its limit, by the position of its declaration, of a list whose first position is k
+-- what a declaration is refused for, in the order in which its numbers are judged
+abbrev pub numberGrounds : Declaration → List Ground
+numberGrounds d = (BadBurst, badBurst (d .burst)) ∷ (BadPeriod, badPeriod (d .period)) ∷ (BadDeadline, badDeadline (d .deadline)) ∷ []
+
+-- the fault of the declaration in place k, if it is refused, else that of those after it
+abbrev pub faultAt : ℕ → Option Refusal → Fault → Fault
+faultAt k none later = later
+faultAt k (some refusal) later = At refusal k
+
+-- the first fault of declarations that stand in the places from k on
 unfoldable pub firstBad : ℕ → List Declaration → Fault
 firstBad k [] = Nothing
-firstBad k (d ∷ ds) =
-    cond (badBurst (d .burst)) (Burst k)
-    (cond (badPeriod (d .period)) (Period k)
-    (cond (badDeadline (d .deadline)) (Deadline k)
-    (firstBad (suc k) ds)))
+firstBad k (d ∷ ds) = faultAt k (firstOf (numberGrounds d)) (firstBad (suc k) ds)
 
--- whether there is a fault
-abbrev pub isFault : Fault → Bool
-isFault Nothing = false
-isFault (Burst k) = true
-isFault (Period k) = true
-isFault (Deadline k) = true
-
--- whether some declaration has a number beyond its limit
-abbrev pub someBad : List Declaration → Bool
-someBad ds = isFault (firstBad 0 ds)
-
--- a refusal is the verdict; without one the verdict is that of the test
-abbrev pub settledOf : Option Refusal → Verdict → Verdict
-settledOf none verdict = verdict
-settledOf (some refusal) verdict = Refused refusal
+-- a fault is the verdict; without one the verdict is that of the test
+abbrev pub settledOf : Fault → Verdict → Verdict
+settledOf Nothing verdict = verdict
+settledOf (At refusal k) verdict = RefusedAt refusal k
 
 -- how far the test looks, in slots
 abbrev pub horizon : ℕ
@@ -49,8 +43,7 @@ horizon = 4096
 
 -- the verdict on declarations, told whether their list is too long: that is judged first, then the numbers, then the demand
 abbrev pub judgedOf : Bool → List Declaration → Verdict
-judgedOf long ds =
-    settledOf (firstOf ((BeyondLimit, long) ∷ (BeyondLimit, someBad ds) ∷ [])) (leastFailing horizon ds)
+judgedOf long ds = cond long (Refused ListTooLong) (settledOf (firstBad 0 ds) (leastFailing horizon ds))
 
 -- the verdict on a list
 abbrev pub admitOf : List Declaration → Verdict

@@ -14,19 +14,19 @@ pub struct Declaration {
     pub deadline: u64,
 }
 
-// The answer to a list: admitted, the smallest slot count by which too much is due, or a refusal.
+// The answer to a list: admitted, the smallest slot count by which too much is due, the list's refusal,
+// or the refusal of its first bad declaration with that one's place.
 pub enum Verdict {
     Admitted,
     FailsAt(u64),
     Refused(Refusal),
+    RefusedAt(Refusal, usize),
 }
 
-// The first number of a list that is beyond its limit, with the position of its declaration.
+// The refusal of a list's first bad declaration, with its place.
 enum Fault {
     Nothing,
-    Burst(usize),
-    Period(usize),
-    Deadline(usize),
+    At(Refusal, usize),
 }
 
 // A list of at most sixteen declarations by value; the count 17 stands for a longer list.
@@ -75,13 +75,13 @@ impl Table {
         while k < count {
             let declaration = self.items[k];
             if units::outside(declaration.burst, 16) {
-                return Fault::Burst(k);
+                return Fault::At(Refusal::BadBurst, k);
             }
             if bad_period(declaration.period) {
-                return Fault::Period(k);
+                return Fault::At(Refusal::BadPeriod, k);
             }
             if units::bad_deadline(declaration.deadline) {
-                return Fault::Deadline(k);
+                return Fault::At(Refusal::BadDeadline, k);
             }
             k += 1;
         }
@@ -124,13 +124,11 @@ impl Table {
         ensures { λ r. ⌜ r ≡ decideOf self ⌝ }
     {
         if 16 < self.count {
-            return Verdict::Refused(Refusal::BeyondLimit);
+            return Verdict::Refused(Refusal::ListTooLong);
         }
         match self.first_bad() {
             Fault::Nothing => self.least_failing(HORIZON),
-            Fault::Burst(_) => Verdict::Refused(Refusal::BeyondLimit),
-            Fault::Period(_) => Verdict::Refused(Refusal::BeyondLimit),
-            Fault::Deadline(_) => Verdict::Refused(Refusal::BeyondLimit),
+            Fault::At(refusal, k) => Verdict::RefusedAt(refusal, k),
         }
     }
 }
