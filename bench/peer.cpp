@@ -91,7 +91,7 @@ public:
     void open(std::uint64_t flow, std::uint64_t deadline, Output& out) {
         if (flow >= kFlows) return out.line("no", 1u);
         if (flows_[flow].deadline != 0) return out.line("no", 3u);
-        if (deadline < 1 || deadline > kMostDeadline) return out.line("no", 4u);
+        if (deadline < 1 || deadline > kMostDeadline) return out.line("no", 14u);
         flows_[flow].deadline = deadline;
         out.line("ok");
     }
@@ -162,7 +162,7 @@ public:
     void open(std::uint64_t flow, std::uint64_t weight, Output& out) {
         if (flow >= kFlows) return out.line("no", 1u);
         if (flows_[flow].charge != 0) return out.line("no", 3u);
-        if (weight < 1 || weight > kMostWeight) return out.line("no", 4u);
+        if (weight < 1 || weight > kMostWeight) return out.line("no", 13u);
         flows_[flow].charge = kUnitsPerByte / weight;
         out.line("ok");
     }
@@ -180,7 +180,7 @@ public:
         if (flow >= kFlows) return out.line("no", 1u);
         Flow& f = flows_[flow];
         if (f.charge == 0) return out.line("no", 2u);
-        if (length < 1 || length > kMostLength) return out.line("no", 4u);
+        if (length < 1 || length > kMostLength) return out.line("no", 15u);
         if (f.waiting == kPlaces) return out.line("no", 5u);
         const std::uint64_t start = std::max(virtual_time_, f.last_finish);
         const std::uint64_t finish = start + length * f.charge;

@@ -21,7 +21,7 @@ class Refusal(Exception):
     pass
 
 
-# Turns the call down when the condition holds; the lowest number is asked first.
+# Turns the call down when the condition holds; of several, the one asked first gives its number.
 def refuse(number, condition):
     if condition:
         raise Refusal(number)
@@ -69,7 +69,7 @@ class UrgentLane:
     def open(self, flow, deadline):
         refuse(1, flow > 15)
         refuse(3, flow in self.deadline)
-        refuse(4, not 1 <= deadline <= LAST_DEADLINE)
+        refuse(14, not 1 <= deadline <= LAST_DEADLINE)
         self.deadline[flow] = deadline
         self.accepted.setdefault(flow, 0)
 
@@ -119,7 +119,7 @@ class FairLane:
     def open(self, flow, weight):
         refuse(1, flow > 15)
         refuse(3, flow in self.weight)
-        refuse(4, not 1 <= weight <= 16)
+        refuse(13, not 1 <= weight <= 16)
         self.weight[flow] = weight
         self.last_finish.setdefault(flow, Fraction(0))
         self.accepted.setdefault(flow, 0)
@@ -136,7 +136,7 @@ class FairLane:
     def offer(self, flow, length):
         refuse(1, flow > 15)
         refuse(2, flow not in self.weight)
-        refuse(4, not 1 <= length <= 1500)
+        refuse(15, not 1 <= length <= 1500)
         refuse(5, full(self.waiting, flow))
         start = max(self.virtual_time, self.last_finish[flow])
         finish = start + Fraction(length, self.weight[flow])
