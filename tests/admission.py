@@ -10,13 +10,26 @@ import sys
 LAST_T = 4096  # the largest deadline, and the last t that is looked at
 
 
-# Whether the declared flows can all be served in time: `admitted`, `fails T` or `no 4`.
+# The refusal of a declaration: 17 for its burst, else 18 for its period, else 14 for its deadline; None if all are good.
+def refusal(burst, period, deadline):
+    if not 1 <= burst <= 16:
+        return 17
+    if period < 1 or 5040 % period != 0:
+        return 18
+    if not 1 <= deadline <= LAST_T:
+        return 14
+    return None
+
+
+# Whether the declared flows can all be served in time: `admitted` or `fails T`; `no 16` if there are too many of them, and
+# `no N K` if declaration K, from 0, is the first that has a bad number, with refusal N.
 def verdict(declarations) -> str:
     if len(declarations) > 16:
-        return "no 4"
-    for burst, period, deadline in declarations:
-        if period < 1 or 5040 % period != 0 or not (1 <= burst <= 16 and 1 <= deadline <= LAST_T):
-            return "no 4"
+        return "no 16"
+    for place, declaration in enumerate(declarations):
+        number = refusal(*declaration)
+        if number is not None:
+            return f"no {number} {place}"
     # B + floor((t - D) / P) is B at t = D and grows by one at D + P, D + 2P, ...
     growth = [0] * (LAST_T + 1)
     for burst, period, deadline in declarations:

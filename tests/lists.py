@@ -2,7 +2,8 @@
 
     lists.py SEED COUNT > lists
 
-Everything here is settled by its arguments: the same seed gives the same bytes.
+writes the lists settled by hand, and after them so many random ones. Everything here is settled by its arguments: the same seed
+gives the same bytes.
 """
 
 import random
@@ -10,6 +11,7 @@ import sys
 
 TOP = 2**64 - 1
 DIVISORS = [period for period in range(1, 5041) if 5040 % period == 0]
+BEYOND = [[0, 17, 257, TOP], [0, 11, 5041, 10080, 65537, TOP], [0, 4097, 65537, TOP]]  # bad bursts, periods, deadlines
 
 
 # A declaration with any good numbers.
@@ -53,7 +55,24 @@ def late_list(rng, length):
     return out
 
 
-# Random lists of 0 to 17 declarations; about one list in twelve has a number beyond its limit.
+# The list with numbers beyond their limits: as often as not one, else two or three of one declaration, or two to six anywhere.
+def spoilt_list(rng, made):
+    spots = [(at, field) for at in range(len(made)) for field in range(3)]
+    kind = rng.randrange(4)
+    if kind < 2:
+        chosen = [rng.choice(spots)]
+    elif kind < 3:
+        at = rng.randrange(len(made))
+        chosen = rng.sample(spots[3 * at : 3 * at + 3], rng.randint(2, 3))
+    else:
+        chosen = rng.sample(spots, rng.randint(2, min(6, len(spots))))
+    spoilt = [list(declaration) for declaration in made]
+    for at, field in chosen:
+        spoilt[at][field] = rng.choice(BEYOND[field])
+    return [tuple(declaration) for declaration in spoilt]
+
+
+# Random lists of 0 to 17 declarations; about one list in eight has numbers beyond their limits.
 def random_lists(seed, count):
     rng = random.Random(seed)
     lists = []
@@ -70,30 +89,92 @@ def random_lists(seed, count):
             made = tight_list(rng, length)
         else:
             made = late_list(rng, length) if length else []
-        if made and rng.randrange(12) == 0:
-            at, field = rng.randrange(len(made)), rng.randrange(3)
-            wrong = [[0, 17, 257, TOP], [0, 11, 5041, 10080, 65537, TOP], [0, 4097, 65537, TOP]]
-            spoilt = list(made[at])
-            spoilt[field] = rng.choice(wrong[field])
-            made[at] = tuple(spoilt)
+        if made and rng.randrange(8) == 0:
+            made = spoilt_list(rng, made)
         lists.append(made)
     return lists
 
 
-# Lists settled by hand, most of them at or beyond a limit, each with its answer.
-def fixed_lists():
+# Declarations with a bad number, by the number that each is refused with.
+def bad_declarations():
+    return {
+        17: [
+            (0, 5040, 4096), (17, 5040, 4096), (257, 5040, 4096), (65537, 5040, 4096), (2**32 + 1, 5040, 4096),
+            (TOP, 5040, 4096), (0, 0, 1), (17, 11, 1), (0, 5040, 0), (17, 1, 4097), (0, 0, 0), (TOP, TOP, TOP),
+        ],
+        18: [
+            (1, 0, 4096), (1, 11, 4096), (16, 32, 4096), (1, 2521, 4096), (1, 5039, 1), (1, 5041, 4096), (1, 10080, 4096),
+            (1, 2**32 + 1, 4096), (1, TOP, 4096), (1, 0, 0), (16, 11, 4097), (1, TOP, TOP),
+        ],
+        14: [
+            (1, 5040, 0), (16, 1, 0), (1, 5040, 4097), (16, 1, 4097), (1, 5040, 65537), (1, 5040, 2**32 + 1), (1, 5040, TOP),
+        ],
+    }
+
+
+# Lists with bad numbers, each with its answer, settled by hand: the first bad declaration is named, and a long list goes first.
+def refused_lists():
     one, late, fast = (1, 5040, 1), (1, 5040, 4096), (16, 1, 1)
-    bad = [
-        (0, 5040, 4096), (17, 5040, 4096), (257, 5040, 4096), (65537, 5040, 4096), (2**32 + 1, 5040, 4096),
-        (TOP, 5040, 4096), (1, 0, 4096), (1, 11, 4096), (1, 5041, 4096), (1, 10080, 4096), (1, 2**32 + 1, 4096),
-        (1, TOP, 4096), (1, 5040, 0), (1, 5040, 4097), (1, 5040, 65537), (1, 5040, 2**32 + 1), (1, 5040, TOP),
-        (TOP, TOP, TOP), (0, 0, 0), (1, 0, 0), (0, 0, 1),
+    burst, period, deadline = (17, 5040, 4096), (1, 11, 4096), (1, 5040, 4097)
+    pairs = []
+    for number, declarations in bad_declarations().items():
+        for bad in declarations:
+            pairs += [
+                ([bad], f"no {number} 0"),
+                ([bad] + [fast] * 15, f"no {number} 0"),
+                ([one] * 7 + [bad], f"no {number} 7"),
+                ([late] * 15 + [bad], f"no {number} 15"),
+                ([late] * 16 + [bad], "no 16"),
+            ]
+    for place in range(16):
+        before, after = [late] * place, [late] * (15 - place)
+        pairs += [
+            (before + [burst] + after, f"no 17 {place}"),
+            (before + [period] + after, f"no 18 {place}"),
+            (before + [deadline] + after, f"no 14 {place}"),
+        ]
+    return pairs + [
+        ([late, late, deadline, burst], "no 14 2"),
+        ([late, late, deadline, period], "no 14 2"),
+        ([late, late, period, burst], "no 18 2"),
+        ([late, late, burst, deadline], "no 17 2"),
+        ([deadline, period, burst], "no 14 0"),
+        ([late, period, deadline, burst], "no 18 1"),
+        ([late, deadline, (0, 0, 0)], "no 14 1"),
+        ([late, (1, 11, 0), (17, 5040, 1)], "no 18 1"),
+        ([late, (17, 5040, 0), (1, 11, 1)], "no 17 1"),
+        ([deadline] + [late] * 14 + [burst], "no 14 0"),
+        ([late] * 14 + [deadline, burst], "no 14 14"),
+        ([late] * 14 + [period, (0, 0, 0)], "no 18 14"),
+        ([burst] * 16, "no 17 0"),
+        ([period] * 16, "no 18 0"),
+        ([deadline] * 16, "no 14 0"),
+        ([(0, 0, 0)] * 16, "no 17 0"),
+        ([(3, 2, 2), deadline], "no 14 1"),
+        ([(1, 2, 1), (1, 2, 1), period], "no 18 2"),
+        ([fast] * 15 + [burst], "no 17 15"),
+        ([late] * 17, "no 16"),
+        ([fast] * 17, "no 16"),
+        ([late] * 18, "no 16"),
+        ([late] * 40, "no 16"),
+        ([fast] * 100, "no 16"),
+        ([burst] + [late] * 16, "no 16"),
+        ([period] + [late] * 16, "no 16"),
+        ([deadline] + [late] * 16, "no 16"),
+        ([burst] + [late] * 15 + [deadline], "no 16"),
+        ([burst] * 17, "no 16"),
+        ([(0, 0, 0)] * 17, "no 16"),
+        ([(TOP, TOP, TOP)] * 17, "no 16"),
+        ([late] * 17 + [period], "no 16"),
+        ([(0, 0, 0)] * 18, "no 16"),
+        ([(1, 1, 0)] * 33, "no 16"),
     ]
-    pairs = [([declaration], "no 4") for declaration in bad]
-    pairs += [([one] * 7 + [declaration], "no 4") for declaration in bad]
-    pairs += [([declaration] + [fast] * 15, "no 4") for declaration in bad]
-    pairs += [([late] * 16 + [declaration], "no 4") for declaration in bad]
-    pairs += [
+
+
+# Lists of good numbers, most of them at a limit, each with its answer, settled by hand.
+def judged_lists():
+    one, late, fast = (1, 5040, 1), (1, 5040, 4096), (16, 1, 1)
+    return [
         ([], "admitted"),
         ([one], "admitted"),
         ([late], "admitted"),
@@ -102,10 +183,8 @@ def fixed_lists():
         ([(16, 5040, 4096)] * 16, "admitted"),
         ([(16, 1, 4096)] * 16, "admitted"),
         ([late] * 16, "admitted"),
-        ([late] * 17, "no 4"),
         ([fast], "fails 1"),
         ([fast] * 16, "fails 1"),
-        ([fast] * 17, "no 4"),
         ([(1, 16, 16)] * 16, "admitted"),
         ([(1, 15, 16)] * 16, "fails 31"),
         ([(1, 2, 1), (1, 2, 2)], "admitted"),
@@ -118,7 +197,11 @@ def fixed_lists():
         ([(1, 1, 2), one], "admitted"),
         ([(1, 1, 2), one, (1, 5040, 4095)], "fails 4095"),
     ]
-    return pairs
+
+
+# All lists settled by hand, each with its answer.
+def fixed_lists():
+    return refused_lists() + judged_lists()
 
 
 # Lists as the lines of an admission input.
@@ -127,4 +210,5 @@ def list_lines(lists):
 
 
 if __name__ == "__main__":
-    sys.stdout.buffer.write(list_lines(random_lists(int(sys.argv[1]), int(sys.argv[2]))))
+    by_hand = [made for made, _ in fixed_lists()]
+    sys.stdout.buffer.write(list_lines(by_hand + random_lists(int(sys.argv[1]), int(sys.argv[2]))))
