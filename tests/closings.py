@@ -1,13 +1,10 @@
 """Sessions that close flows and open them again."""
-from named import paired
+from named import CHARGES, paired
 
 
 # The input and the output of each, worked out by hand.
 def closings():
     every = range(16)
-    charges = [
-        720720, 360360, 240240, 180180, 144144, 120120, 102960, 90090, 80080, 72072, 65520, 60060, 55440, 51480, 48048, 45045,
-    ]
     bad_texts = [
         "C", "c", "C ", "c ", "C 1 2", "c 1 2", "C  1", "c  1", " C 1", " c 1", "C 1 ", "c 1 ", "C 01", "c 00",
         "C 4294967296", "c 4294967296", "C 10000000000", "c 10000000000", "C1", "c1", "C -1", "c +1", "C\t1", "c 1\r",
@@ -120,7 +117,7 @@ def closings():
             *[(f"C {flow}", "ok") for flow in every], *[(f"c {flow}", "ok") for flow in every],
             *[(f"U {flow} {flow + 1}", "ok") for flow in every], *[(f"F {flow} {flow + 1}", "ok") for flow in every],
             *[(f"u {flow}", f"ok 0 {flow}") for flow in every],
-            *[(f"f {flow} 1", f"ok 0 0 {charges[flow]}") for flow in every],
+            *[(f"f {flow} 1", f"ok 0 0 {CHARGES[flow]}") for flow in every],
         ),
         "every place of a flow opened again": paired(
             ("U 7 40", "ok"), *[("u 7", f"ok {k} 39") for k in every], ("u 7", "no 5"), ("C 7", "no 12"),

@@ -1,5 +1,10 @@
 """The sessions that have a name: the rules' own, the cases to be checked by hand, and lines at every edge of the grammar."""
 
+# The charge for one byte by weight, from 1 to 16.
+CHARGES = [
+    720720, 360360, 240240, 180180, 144144, 120120, 102960, 90090, 80080, 72072, 65520, 60060, 55440, 51480, 48048, 45045,
+]
+
 
 # Commands given as text, one a line, as the bytes of a session.
 def text(*lines):
