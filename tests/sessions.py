@@ -14,6 +14,9 @@ SMALL_BAD_LINES = [line for lines in named.malformed().values() for line in line
 DEADLINES = [1, 1, 2, 2, 3, 3, 4, 5, 8, 12, 12, 20, 20, 40, 40, 100, 300, 1000, 4095, 4096]
 ABOVE = [16, 17, 99, 255, 256, 65536, 4294967295]
 LENGTHS = [1, 2, 3, 7, 40, 64, 64, 100, 100, 576, 1499, 1500]
+BAD_DEADLINES = [0, 4097, 65537, 4294967295]
+BAD_WEIGHTS = [0, 17, 257, 4294967295]
+BAD_LENGTHS = [0, 1501, 65537, 4294967295]
 
 
 # One random session, its commands drawn in stretches of differing kinds, each kind in every round.
@@ -51,16 +54,16 @@ class RandomSession:
 
     def length(self):
         if self.chance(3):
-            return self.rng.choice([0, 1501, 65537, 4294967295])
+            return self.rng.choice(BAD_LENGTHS)
         return self.rng.choice(LENGTHS) if self.chance(60) else self.rng.randint(1, 1500)
 
     def open_urgent(self, flow):
         bad = self.chance(12)
-        self.add(f"U {flow} {self.rng.choice([0, 4097, 65537, 4294967295] if bad else DEADLINES)}")
+        self.add(f"U {flow} {self.rng.choice(BAD_DEADLINES if bad else DEADLINES)}")
 
     def open_fair(self, flow):
         bad = self.chance(12)
-        self.add(f"F {flow} {self.rng.choice([0, 17, 257, 4294967295]) if bad else self.rng.randint(1, 16)}")
+        self.add(f"F {flow} {self.rng.choice(BAD_WEIGHTS) if bad else self.rng.randint(1, 16)}")
 
     # One command of any kind, and after a closing mostly the opening again.
     def any_command(self):
@@ -98,11 +101,14 @@ class RandomSession:
             for _ in range(self.rng.randint(8, 22)):
                 self.add(f"u {flow}")
 
+    # Many packets of a few flows at once, and on each, full or not, a bad length and a good one.
     def fill_fair(self):
         for flow in self.rng.sample(self.fair, self.rng.randint(1, 3)):
             length = self.length()
             for _ in range(self.rng.randint(8, 22)):
                 self.add(f"f {flow} {length}")
+            self.add(f"f {flow} {self.rng.choice(BAD_LENGTHS)}")
+            self.add(f"f {flow} {self.rng.choice(LENGTHS)}")
 
     # A cell or packet of every flow in use, so that many tags and last slots are alike.
     def level(self):
@@ -164,6 +170,13 @@ class RandomSession:
             self.open_fair(flow)
             self.add(f"f {flow} {self.length()}")
 
+    # Bad numbers for flows as they are, open or not; the last is above 15.
+    def misnumber(self):
+        for flow in [*self.rng.sample(range(16), self.rng.randint(4, 8)), self.rng.choice(ABOVE)]:
+            self.add(f"U {flow} {self.rng.choice(BAD_DEADLINES)}")
+            self.add(f"F {flow} {self.rng.choice(BAD_WEIGHTS)}")
+            self.add(f"f {flow} {self.rng.choice(BAD_LENGTHS)}")
+
     # The same command again and again.
     def one_kind(self):
         command = self.rng.choice([
@@ -172,14 +185,16 @@ class RandomSession:
         for _ in range(self.rng.randint(5, 60)):
             self.add(command)
 
+    # So many lines: bad numbers while no flow is open, the openings, and then stretches in rounds.
     def bytes(self, count):
+        self.misnumber()
         for flow in self.urgent:
             self.open_urgent(flow)
         for flow in self.fair:
             self.open_fair(flow)
         stretches = [
             self.mixture, self.mixture, self.mixture, self.fill_urgent, self.fill_urgent, self.fill_fair, self.fill_fair,
-            self.level, self.drain_urgent, self.drain_fair, self.rewire_urgent, self.rewire_fair, self.one_kind,
+            self.level, self.drain_urgent, self.drain_fair, self.rewire_urgent, self.rewire_fair, self.misnumber, self.one_kind,
         ]
         while len(self.lines) < count:
             for stretch in self.rng.sample(stretches, len(stretches)):
