@@ -143,6 +143,12 @@ fn print(verdict: Verdict) {
             io::write_all(STDOUT_FILENO, b"no ");
             io::print_decimal(STDOUT_FILENO, refusal.number());
         }
+        Verdict::RefusedAt(refusal, k) => {
+            io::write_all(STDOUT_FILENO, b"no ");
+            io::print_decimal(STDOUT_FILENO, refusal.number());
+            io::write_all(STDOUT_FILENO, b" ");
+            io::print_decimal(STDOUT_FILENO, k as u64);
+        }
     }
     io::write_all(STDOUT_FILENO, b"\n");
 }

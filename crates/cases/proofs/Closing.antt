@@ -1,5 +1,5 @@
 -- The closings: the definitions compute, for the session once its numbers are in digits.
-use mathlib.Core.Path.{_≡_, refl}
+use mathlib.Core.Path.{refl}
 use native.Mathlib.Omega.{arith}
 use Rattle.units.specs.Refusals.{firstOf}
 use Rattle.places.specs.Places.{count, firstFree}
@@ -10,19 +10,13 @@ use Rattle.urgent.specs.Calls.{closeOf as closeUrgentOf}
 use Rattle.urgent.specs.Calls.{offerOf as offerCellOf}
 use Rattle.fair.specs.Calls.{openOf, closeOf, offerOf, beginOf, endOf}
 use Rattle.station.specs.Calls.{callOf}
-use Rattle.lines.specs.Grammar.{decimalOf}
 use Rattle.lines.specs.Reading.{readOn}
 use Rattle.lines.proofs.Decimal.{decimal-digit}
 use Rattle.session.specs.Whole.{linesOf, answersOf}
 use Rattle.cases.specs.Table.{replies}
 use Rattle.cases.specs.Worked.{bytesOf}
 use Rattle.cases.specs.Closing.{Closings}
-use Rattle.cases.proofs.Worked.{longer}
-
--- the refusal of a flow in use
-twelve : decimalOf 12 ≡ bytesOf "12"
-unfolding bytesOf
-twelve = longer 1 2 (omega arith) (omega arith) (decimal-digit 1 (omega arith))
+use Rattle.cases.proofs.Worked.{teen}
 
 pub closings : Closings
 unfolding replies bytesOf linesOf answersOf readOn callOf openUrgentOf closeUrgentOf offerCellOf turnOf openOf closeOf offerOf beginOf endOf firstOf count firstFree comesBefore better least
@@ -30,5 +24,5 @@ closings =
     record {
       urgent = refl;
       fair = refl;
-      session = rw (decimal-digit 0 (omega arith), decimal-digit 1 (omega arith), decimal-digit 2 (omega arith), twelve);
+      session = rw (decimal-digit 0 (omega arith), decimal-digit 1 (omega arith), decimal-digit 2 (omega arith), teen 2 (omega arith));
     }

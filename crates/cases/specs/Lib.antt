@@ -1,3 +1,4 @@
 pub mod Table
 pub mod Closing
 pub mod Worked
+pub mod BadNumbers

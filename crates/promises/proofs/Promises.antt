@@ -5,7 +5,8 @@ use Rattle.units.proofs.Charges.{product-rule}
 use Rattle.admission.proofs.Published.{published}
 use Rattle.station.specs.Calls.{callOf}
 use Rattle.station.proofs.InKind.{answered-in-kind}
-use Rattle.station.proofs.Laws.{refused-first, number-told, grounds-rise, refused-same}
+use Rattle.units.proofs.Refusals.{never-4}
+use Rattle.station.proofs.Laws.{refused-first, number-told, grounds-in-order, refused-same}
 use Rattle.lines.proofs.Texts.{reads-one-text}
 use Rattle.session.proofs.Pieces.{fed-in-pieces, takes-on}
 use Rattle.promises_urgent.proofs.Account.{conserved, few-numbers, sends-earliest}
@@ -29,8 +30,9 @@ promises =
       S1 = refused-same;
       S2 = refused-first;
       S2-number = number-told;
-      S2-lowest = grounds-rise;
+      S2-order = grounds-in-order;
       S2-numbers = refl;
+      S2-never4 = never-4;
       S3-urgent = urgent-only;
       S3-fair = fair-only;
       S4 = refused-as-told;

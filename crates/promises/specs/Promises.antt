@@ -6,7 +6,7 @@ use mathlib.Core.Option.{none}
 use Prim.Native.Nat.{ℕ, _+_, _%_, _≤_, _<_}
 use Rattle.units.specs.Refusals.{Ground, numberOf, firstOf}
 use Rattle.units.specs.declared.Refusal.{Refusal}
-use Rattle.units.specs.declared.Refusal.the-variants.{NoSuchFlow, NotOpen, AlreadyOpen, BeyondLimit, PlacesFull, TagsUsedUp, SlotsUsedUp, PacketInService, NothingWaits, NothingInService, NoCommand, FlowInUse}
+use Rattle.units.specs.declared.Refusal.the-variants.{NoSuchFlow, NotOpen, AlreadyOpen, PlacesFull, TagsUsedUp, SlotsUsedUp, PacketInService, NothingWaits, NothingInService, NoCommand, FlowInUse, BadWeight, BadDeadline, BadLength, ListTooLong, BadBurst, BadPeriod}
 use Rattle.units.specs.Charges.{ProductRule}
 use Rattle.units.specs.Radio.{slotsPassed}
 use Rattle.admission.specs.Published.{Published}
@@ -21,7 +21,7 @@ use Rattle.station.specs.declared.Call.the-variants.{OpenUrgent, OpenFair, Clos
 use Rattle.station.specs.Calls.{freshStation}
 use Rattle.station.specs.Answers.{told, refusalIn}
 use Rattle.station.specs.InKind.{AnsweredInKind}
-use Rattle.station.specs.Laws.{RefusedFirst, NumberTold, GroundsRise, RefusedSame, isUrgent}
+use Rattle.station.specs.Laws.{RefusedFirst, NumberTold, GroundsInOrder, RefusedSame, isUrgent}
 use Rattle.lines.specs.Reading.{ReadsOneText}
 use Rattle.session.specs.Laws.{FedInPieces, TakesOn}
 use Rattle.promises.specs.Sessions.{CallsAnswered, OthersAnswered}
@@ -31,13 +31,12 @@ use Rattle.promises.specs.Run.{Run, run, runFrom, replyTo, onUrgent, onF
 abbrev pub isFair : Call → Bool
 isFair call = not (isUrgent call)
 
--- the refusals in the order of the rules' table
+-- the refusals in the order of their numbers
 abbrev pub inOrder : List Refusal
 inOrder =
     NoSuchFlow
     ∷ NotOpen
     ∷ AlreadyOpen
-    ∷ BeyondLimit
     ∷ PlacesFull
     ∷ TagsUsedUp
     ∷ SlotsUsedUp
@@ -46,6 +45,12 @@ inOrder =
     ∷ NothingInService
     ∷ NoCommand
     ∷ FlowInUse
+    ∷ BadWeight
+    ∷ BadDeadline
+    ∷ BadLength
+    ∷ ListTooLong
+    ∷ BadBurst
+    ∷ BadPeriod
     ∷ []
 
 -- what a call is refused for, read off the calls and replies so far: open is opened and not closed since; waiting is accepted, not sent
@@ -69,12 +74,13 @@ pub record Promises : Type 0 where
   pub S0 : AnsweredInKind
   -- S1: a refused call leaves the station as it was, in every state
   pub S1 : RefusedSame
-  -- S2: a call is refused exactly for the first of its grounds that holds, which is the one with the lowest number, in every state
+  -- S2: a call is refused exactly for the first of its grounds that holds, in the order that the rules give, in every state
   pub S2 : RefusedFirst
   pub S2-number : NumberTold
-  pub S2-lowest : GroundsRise
-  -- and the refusals have the rules' numbers
-  pub S2-numbers : map numberOf inOrder ≡ 1 ∷ 2 ∷ 3 ∷ 4 ∷ 5 ∷ 6 ∷ 7 ∷ 8 ∷ 9 ∷ 10 ∷ 11 ∷ 12 ∷ []
+  pub S2-order : GroundsInOrder
+  -- and the refusals have the rules' numbers, of which 4 is none
+  pub S2-numbers : map numberOf inOrder ≡ 1 ∷ 2 ∷ 3 ∷ 5 ∷ 6 ∷ 7 ∷ 8 ∷ 9 ∷ 10 ∷ 11 ∷ 12 ∷ 13 ∷ 14 ∷ 15 ∷ 16 ∷ 17 ∷ 18 ∷ []
+  pub S2-never4 : (refusal : Refusal) → numberOf refusal ≡ 4 → ⊥
   -- S3: the lanes share nothing: the replies to one lane's calls are the replies to those calls alone
   pub S3-urgent : (calls : List Call) → repliesTo isUrgent freshStation calls ≡ replies freshStation (only isUrgent calls)
   pub S3-fair : (calls : List Call) → repliesTo isFair freshStation calls ≡ replies freshStation (only isFair calls)

@@ -1,0 +1,27 @@
+-- The bad numbers: the definitions compute, for the session once its numbers are in digits.
+use mathlib.Core.Path.{refl}
+use native.Mathlib.Omega.{arith}
+use Rattle.units.specs.Refusals.{firstOf}
+use Rattle.places.specs.Places.{count, firstFree}
+use Rattle.admission.specs.Verdicts.{firstBad}
+use Rattle.urgent.specs.Calls.{openOf as openUrgentOf}
+use Rattle.fair.specs.Calls.{openOf, offerOf}
+use Rattle.station.specs.Calls.{callOf}
+use Rattle.lines.specs.Reading.{readOn}
+use Rattle.lines.proofs.Decimal.{decimal-digit}
+use Rattle.session.specs.Whole.{linesOf, answersOf}
+use Rattle.cases.specs.Table.{replies}
+use Rattle.cases.specs.Worked.{bytesOf}
+use Rattle.cases.specs.BadNumbers.{BadNumbers}
+use Rattle.cases.proofs.Worked.{teen}
+
+pub bad-numbers : BadNumbers
+unfolding replies bytesOf linesOf answersOf readOn callOf openUrgentOf openOf offerOf firstOf firstBad count firstFree
+bad-numbers =
+    record {
+      deadlines = refl;
+      weights = refl;
+      lists = refl;
+      session =
+          rw (decimal-digit 2 (omega arith), decimal-digit 3 (omega arith), teen 3 (omega arith), teen 4 (omega arith), teen 5 (omega arith));
+    }
