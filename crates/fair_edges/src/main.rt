@@ -1,10 +1,13 @@
 // Runs the fair lane on the worked cases, on bad numbers, and on states written out that no session can reach.
+mod states;
+
 use fair::Answer;
 use fair::Fair;
-use fair::Service;
 use libc::STDOUT_FILENO;
+use states::serving;
+use states::two_waiting;
+use states::written;
 use tags::Flow;
-use tags::Packet;
 use units::Tag;
 
 // Writes a blank and a number.
@@ -105,56 +108,6 @@ fn end(lane: Fair) -> Fair {
     after
 }
 
-// A lane as before any call, but at a virtual time, and with flow 0 open.
-fn written(time: u64, weight: u64, next: u64, finish: u64) -> Fair {
-    let mut lane = Fair::fresh();
-    let now = Tag(time);
-    lane.time = now;
-    lane.flows[0] = Flow {
-        opened: true,
-        weight: weight,
-        next: next,
-        finish: Tag(finish),
-    };
-    lane
-}
-
-// A lane with a packet in service that would finish here, and with the largest finish so far.
-fn serving(finish: u64, ended: u64) -> Fair {
-    let mut lane = written(0, 1, 0, 0);
-    let so_far = Tag(ended);
-    let service = Service {
-        busy: true,
-        flow: 3,
-        number: 7,
-        length: 9,
-        finish: Tag(finish),
-    };
-    lane.ended = so_far;
-    lane.service = service;
-    lane
-}
-
-// A lane with two packets of flow 0 that start here and here, the one with the lower number in the later place.
-fn two_waiting(first: u64, second: u64) -> Fair {
-    let mut lane = written(0, 1, 0, 0);
-    lane.packets[2] = Packet {
-        held: true,
-        number: 8,
-        length: 20,
-        start: Tag(first),
-        finish: Tag(first),
-    };
-    lane.packets[5] = Packet {
-        held: true,
-        number: 4,
-        length: 50,
-        start: Tag(second),
-        finish: Tag(second),
-    };
-    lane
-}
-
 // Writes a heading.
 fn case(name: &[u8]) {
     io::write_all(STDOUT_FILENO, name);
@@ -214,6 +167,10 @@ fn unreachable_states() {
     case(b"full before used up");
     let full = offers(written(4611686018415856384, 1, 0, 0), 0, 17);
     offer(begin(full), 0, 1);
+    case(b"a bad length before used up and before full");
+    let used_up = written(18446744073709551615, 1, 0, 0);
+    offer(offer(used_up, 0, 1501), 0, 1);
+    offer(offers(written(0, 1, 0, 0), 0, 17), 0, 0);
     case(b"the last numbers of all");
     offer(written(18446744073709551615, 1, 0, 0), 0, 1);
     offer(written(0, 1, 18446744073709551615, 0), 0, 1500);
