@@ -1,6 +1,6 @@
 -- One declaration: it is refused for its first bad number, and only a declaration without one is not refused.
 use mathlib.Core.Path.{_≡_, refl}
-use mathlib.Core.Bool.{Bool, true, false, true≢false}
+use mathlib.Core.Bool.{Bool, true, false}
 use mathlib.Core.List.{[], _∷_}
 use mathlib.Core.Option.{Option, none, some}
 use Rattle.units.specs.Limits.{badDeadline}

@@ -1,5 +1,5 @@
 -- The published test: what is told of a list, and why, settles each statement the one way; each reason, computed, settles it the other.
-use mathlib.Core.Path.{_≡_, refl, sym, _∙_, ap}
+use mathlib.Core.Path.{_≡_, refl, _∙_, ap}
 use mathlib.Core.Bool.{Bool, true, false}
 use mathlib.Core.List.{List, [], _∷_, List·Memᴰ, List·Memᴰ·head, List·Memᴰ·tail}
 use mathlib.Core.Option.{some}
@@ -14,7 +14,7 @@ use Rattle.units.specs.declared.Refusal.{Refusal}
 use Rattle.units.specs.declared.Refusal.the-variants.{ListTooLong, BadBurst, BadPeriod, BadDeadline}
 use Rattle.admission.specs.declared.Declaration.{Declaration}
 use Rattle.admission.specs.declared.Fault.{Fault}
-use Rattle.admission.specs.declared.Fault.the-variants.{Nothing, At}
+use Rattle.admission.specs.declared.Fault.the-variants.{At}
 use Rattle.admission.specs.declared.Verdict.{Verdict}
 use Rattle.admission.specs.declared.Verdict.the-variants.{Admitted, FailsAt, Refused, RefusedAt}
 use Rattle.admission.specs.Limits.{tooLong}
@@ -25,7 +25,7 @@ use Rattle.admission.specs.Answers.{told}
 use Rattle.admission.specs.Published.{BurstBad, PeriodBad, DeadlineBad, Fits, FirstBad, Keeps, Least, Tells, Published}
 use Rattle.admission.proofs.Limits.{divisor}
 use Rattle.admission.proofs.Judged.{Judged, burst, period, deadline, burst-refused, period-refused, deadline-refused}
-use Rattle.admission.proofs.Faults.{GoodTo, Found, nothing, one, found, no-fault, fault-at, judged-long, judged-bad, judged-good}
+use Rattle.admission.proofs.Faults.{Found, nothing, one, found, no-fault, fault-at, judged-long, judged-bad, judged-good}
 use Rattle.admission.proofs.Searched.{Searched, none, searched}
 use Rattle.admission.proofs.Searched.{one as first}
 

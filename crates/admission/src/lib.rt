@@ -65,7 +65,7 @@ impl Table {
         self
     }
 
-    // The first number beyond its limit: declaration by declaration, its burst, its period, its deadline.
+    // The first fault: declaration by declaration, its burst, then its period, then its deadline.
     fn first_bad(self) -> Fault
         requires { ⌜ self .count ≤ 16 ⌝ }
         ensures { λ r. ⌜ r ≡ firstBad 0 (heldOf self) ⌝ }
