@@ -18,10 +18,10 @@ use Rattle.admission.specs.declared.Fault.the-variants.{Nothing, At}
 use Rattle.admission.specs.declared.Verdict.the-variants.{Refused, RefusedAt}
 use Rattle.admission.specs.Tables.{noDeclaration, heldOf}
 use Rattle.admission.specs.Demand.{leastFailing, Lawful, Ready}
-use Rattle.admission.specs.Verdicts.{numberGrounds, faultAt, firstBad, horizon, judgedOf}
+use Rattle.admission.specs.Verdicts.{declarationGrounds, faultAt, firstBad, horizon, judgedOf}
 use Rattle.admission.specs.Published.{Within}
 use Rattle.admission.proofs.Limits.{positive}
-use Rattle.admission.proofs.Judged.{Judged, good, judged, good-taken}
+use Rattle.admission.proofs.Reasons.{Reason, good, reason, good-taken}
 
 -- every declaration of a list before its k-th is within its limits
 abbrev pub GoodTo : List Declaration → ℕ → Type 0
@@ -34,9 +34,9 @@ good-cons d ds k w ws (suc i) l = ws i (le-of-suc-le-suc l)
 -- the first fault of declarations in the places from j on, and why it is the first
 pub data Found (j : ℕ) (ds : List Declaration) : Fault → Type 0 where
   nothing : GoodTo ds (length ds) → Found j ds Nothing
-  one : (refusal : Refusal) (k place : ℕ) → place ≡ j + k → k < length ds → GoodTo ds k → Judged (getD ds k noDeclaration) (some refusal) → Found j ds (At refusal place)
+  one : (refusal : Refusal) (k place : ℕ) → place ≡ j + k → k < length ds → GoodTo ds k → Reason (getD ds k noDeclaration) (some refusal) → Found j ds (At refusal place)
 
-found-cons : (j : ℕ) (d : Declaration) (ds : List Declaration) (o : Option Refusal) → Judged d o → (f : Fault) → Found (suc j) ds f → Found j (d ∷ ds) (faultAt j o f)
+found-cons : (j : ℕ) (d : Declaration) (ds : List Declaration) (o : Option Refusal) → Reason d o → (f : Fault) → Found (suc j) ds f → Found j (d ∷ ds) (faultAt j o f)
 found-cons j d ds none (good w) _ (nothing ws) = nothing (good-cons d ds (length ds) w ws)
 found-cons j d ds none (good w) _ (one refusal k place e l ws x) =
     one refusal (suc k) place (omega arith) (omega arith) (good-cons d ds k w ws) x
@@ -45,7 +45,7 @@ found-cons j d ds (some refusal) x f later = one refusal 0 j (omega arith) (omeg
 pub found : (j : ℕ) (ds : List Declaration) → Found j ds (firstBad j ds)
 unfolding firstBad
 found j [] = nothing (λ i l. absurd (not-suc-le-zero l))
-found j (d ∷ ds) = found-cons j d ds (firstOf (numberGrounds d)) (judged d) (firstBad (suc j) ds) (found (suc j) ds)
+found j (d ∷ ds) = found-cons j d ds (firstOf (declarationGrounds d)) (reason d) (firstBad (suc j) ds) (found (suc j) ds)
 
 -- and the other way: a list within its limits has none, and the first declaration that is refused is the first fault
 pub no-fault : (j : ℕ) (ds : List Declaration) → GoodTo ds (length ds) → firstBad j ds ≡ Nothing
@@ -54,7 +54,7 @@ no-fault j [] ws = refl
 no-fault j (d ∷ ds) ws = rw (good-taken d (ws 0 (omega arith))) (no-fault (suc j) ds (λ i l. ws (suc i) (omega arith)))
 
 pub fault-at : (j : ℕ) (ds : List Declaration) (k : ℕ) (refusal : Refusal) → k < length ds → GoodTo ds k
-    → firstOf (numberGrounds (getD ds k noDeclaration)) ≡ some refusal → firstBad j ds ≡ At refusal (j + k)
+    → firstOf (declarationGrounds (getD ds k noDeclaration)) ≡ some refusal → firstBad j ds ≡ At refusal (j + k)
 unfolding firstBad
 fault-at j [] k refusal l ws e = absurd (not-suc-le-zero l)
 fault-at j (d ∷ ds) zero refusal l ws e = rw e (ap (At refusal) (omega arith))

@@ -1,5 +1,5 @@
 pub mod Limits
-pub mod Judged
+pub mod Reasons
 pub mod Loops
 pub mod Faults
 pub mod Gathered

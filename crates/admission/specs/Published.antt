@@ -5,13 +5,14 @@ use mathlib.Core.List.{List, [], _∷_, List·Memᴰ}
 use mathlib.Core.Path.{_≡_}
 use Prim.Native.Nat.{ℕ, _≤_, _<_}
 use lib.ListN.{length, getD}
+use Rattle.units.specs.declared.Refusal.the-variants.{BadDeadline, ListTooLong, BadBurst, BadPeriod}
 use Rattle.admission.specs.Limits.{Divides, badPeriod}
 use Rattle.admission.specs.Tables.{noDeclaration}
 use Rattle.admission.specs.Demand.{demandOf}
 use Rattle.admission.specs.Verdicts.{admitOf}
 use Rattle.admission.specs.Answers.{told}
 use Rattle.admission.specs.declared.Declaration.{Declaration}
-use Rattle.admission.specs.declared.Verdict.the-variants.{Admitted, FailsAt}
+use Rattle.admission.specs.declared.Verdict.the-variants.{Admitted, FailsAt, Refused, RefusedAt}
 
 -- n is one of the numbers 1 to most
 abbrev pub OneTo : ℕ → ℕ → Type 0
@@ -21,7 +22,7 @@ OneTo n most = (1 ≤ n) × (n ≤ most)
 abbrev pub Within : Declaration → Type 0
 Within d = OneTo (d .burst) 16 × Divides (d .period) 5040 × OneTo (d .deadline) 4096
 
--- a declaration whose first bad number, in the order burst, period, deadline, is its burst, its period, its deadline
+-- a declaration whose first bad number is its burst; its period; its deadline
 abbrev pub BurstBad : Declaration → Type 0
 BurstBad d = OneTo (d .burst) 16 → ⊥
 
@@ -53,19 +54,25 @@ pub record Least (ds : List Declaration) (t : ℕ) : Type 0 where
   pub fails : t < demandOf ds t
   pub first : (s : ℕ) → 1 ≤ s → s < t → demandOf ds s ≤ s
 
--- what is told of a list: a refusal's number, and the values that go with it
-abbrev pub Tells : List Declaration → ℕ → List ℕ → Type 0
-Tells ds number values = told (admitOf ds) ≡ record { number = number; values = values }
+-- what each verdict tells the station's users: the refusal's number, or 0 for none, and with a bad number the place of its declaration
+pub record ToldAs : Type 0 where
+  pub admitted : told Admitted ≡ record { number = 0; values = [] }
+  pub fails : (t : ℕ) → told (FailsAt t) ≡ record { number = 0; values = t ∷ [] }
+  pub list : told (Refused ListTooLong) ≡ record { number = 16; values = [] }
+  pub burst : (k : ℕ) → told (RefusedAt BadBurst k) ≡ record { number = 17; values = k ∷ [] }
+  pub period : (k : ℕ) → told (RefusedAt BadPeriod k) ≡ record { number = 18; values = k ∷ [] }
+  pub deadline : (k : ℕ) → told (RefusedAt BadDeadline k) ≡ record { number = 14; values = k ∷ [] }
 
 -- the published test, statement by statement
 pub record Published : Type 0 where
-  -- number 16, and no place, exactly where the list is longer than sixteen
-  pub list16 : (ds : List Declaration) → Tells ds 16 [] ↔ (16 < length ds)
-  -- number 17, 18 or 14, and the place k, exactly where the first bad declaration is in place k and its first bad number is the burst, the period or the deadline
-  pub burst17 : (ds : List Declaration) (k : ℕ) → Tells ds 17 (k ∷ []) ↔ FirstBad BurstBad ds k
-  pub period18 : (ds : List Declaration) (k : ℕ) → Tells ds 18 (k ∷ []) ↔ FirstBad PeriodBad ds k
-  pub deadline14 : (ds : List Declaration) (k : ℕ) → Tells ds 14 (k ∷ []) ↔ FirstBad DeadlineBad ds k
-  -- and no other number
+  pub told-as : ToldAs
+  -- 16 is given exactly where the list is longer than sixteen
+  pub list16 : (ds : List Declaration) → (admitOf ds ≡ Refused ListTooLong) ↔ (16 < length ds)
+  -- 17, 18 and 14 are given with place k exactly where the first bad declaration stands there, and its first bad number is this one
+  pub burst17 : (ds : List Declaration) (k : ℕ) → (admitOf ds ≡ RefusedAt BadBurst k) ↔ FirstBad BurstBad ds k
+  pub period18 : (ds : List Declaration) (k : ℕ) → (admitOf ds ≡ RefusedAt BadPeriod k) ↔ FirstBad PeriodBad ds k
+  pub deadline14 : (ds : List Declaration) (k : ℕ) → (admitOf ds ≡ RefusedAt BadDeadline k) ↔ FirstBad DeadlineBad ds k
+  -- no other refusal is given
   pub others : (ds : List Declaration) → List·Memᴰ (told (admitOf ds) .number) (0 ∷ 14 ∷ 16 ∷ 17 ∷ 18 ∷ [])
   -- admitted exactly when not refused and demand by t is at most t for every t from 1 to 4,096
   pub admitted : (ds : List Declaration) → (admitOf ds ≡ Admitted) ↔ (Fits ds × Keeps ds)

@@ -19,8 +19,8 @@ use Rattle.admission.specs.declared.Verdict.{Verdict}
 use Rattle.admission.specs.declared.Verdict.the-variants.{Refused, RefusedAt}
 
 -- what a declaration is refused for, in the order in which its numbers are judged
-abbrev pub numberGrounds : Declaration → List Ground
-numberGrounds d = (BadBurst, badBurst (d .burst)) ∷ (BadPeriod, badPeriod (d .period)) ∷ (BadDeadline, badDeadline (d .deadline)) ∷ []
+abbrev pub declarationGrounds : Declaration → List Ground
+declarationGrounds d = (BadBurst, badBurst (d .burst)) ∷ (BadPeriod, badPeriod (d .period)) ∷ (BadDeadline, badDeadline (d .deadline)) ∷ []
 
 -- the fault of the declaration in place k, if it is refused, else that of those after it
 abbrev pub faultAt : ℕ → Option Refusal → Fault → Fault
@@ -30,7 +30,7 @@ faultAt k (some refusal) later = At refusal k
 -- the first fault of declarations that stand in the places from k on
 unfoldable pub firstBad : ℕ → List Declaration → Fault
 firstBad k [] = Nothing
-firstBad k (d ∷ ds) = faultAt k (firstOf (numberGrounds d)) (firstBad (suc k) ds)
+firstBad k (d ∷ ds) = faultAt k (firstOf (declarationGrounds d)) (firstBad (suc k) ds)
 
 -- a fault is the verdict; without one the verdict is that of the test
 abbrev pub settledOf : Fault → Verdict → Verdict

@@ -14,8 +14,8 @@ pub struct Declaration {
     pub deadline: u64,
 }
 
-// The answer to a list: admitted, the smallest slot count by which too much is due, the list's refusal,
-// or the refusal of its first bad declaration with that one's place.
+// The answer to a list: admitted, the smallest slot count by which too much is due, the refusal of a list that is too long,
+// or the refusal of the first bad declaration with its place, from 0.
 pub enum Verdict {
     Admitted,
     FailsAt(u64),
@@ -23,7 +23,7 @@ pub enum Verdict {
     RefusedAt(Refusal, usize),
 }
 
-// The refusal of a list's first bad declaration, with its place.
+// The refusal of a list's first bad declaration with its place, or nothing where none is bad.
 enum Fault {
     Nothing,
     At(Refusal, usize),
@@ -65,7 +65,7 @@ impl Table {
         self
     }
 
-    // The first fault: declaration by declaration, its burst, then its period, then its deadline.
+    // The refusal of the first bad declaration, with its place; of each the burst is judged first, then the period, then the deadline.
     fn first_bad(self) -> Fault
         requires { ⌜ self .count ≤ 16 ⌝ }
         ensures { λ r. ⌜ r ≡ firstBad 0 (heldOf self) ⌝ }

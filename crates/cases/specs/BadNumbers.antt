@@ -21,7 +21,7 @@ deadlineCase =
       expected = no 14 ∷ no 14 ∷ no 1 ∷ ok ∷ no 3 ∷ [];
     }
 
--- case M's weights 0 and 17; lengths 0 and 1,501; a flow above 15, an unopened flow and an open one go first
+-- case M's weights 0 and 17 are bad, and lengths 0 and 1,501; a flow above 15, an unopened flow and an open one go first
 abbrev pub weightCase : Case
 weightCase =
     record {
@@ -30,15 +30,25 @@ weightCase =
           (OpenFair 0 0 ∷ OpenFair 0 17 ∷ OpenFair 16 0 ∷ OfferPacket 0 0 ∷ OpenFair 0 1 ∷ OpenFair 0 0 ∷ OfferPacket 16 0
           ∷ OfferPacket 0 0
           ∷ OfferPacket 0 1501
-          ∷ OfferPacket 0 1
+          ∷ OfferPacket 0 1500
+          ∷ OpenFair 1 16
+          ∷ OfferPacket 1 1
           ∷ []);
-      expected = no 13 ∷ no 13 ∷ no 1 ∷ no 2 ∷ ok ∷ no 3 ∷ no 1 ∷ no 15 ∷ no 15 ∷ values (0 ∷ 0 ∷ 720720 ∷ []) ∷ [];
+      expected =
+          no 13 ∷ no 13 ∷ no 1 ∷ no 2 ∷ ok ∷ no 3 ∷ no 1
+          ∷ no 15
+          ∷ no 15
+          ∷ values (0 ∷ 0 ∷ 1081080000 ∷ [])
+          ∷ ok
+          ∷ values (0 ∷ 0 ∷ 45045 ∷ [])
+          ∷ [];
     }
 
 -- a refusal with the place of the declaration
 abbrev pub noAt : ℕ → ℕ → Told
 noAt number place = record { number = number; values = place ∷ [] }
 
+-- a declaration that asks for little
 abbrev pub late : Declaration
 late = declared 1 5040 4096
 
@@ -54,6 +64,7 @@ lists =
     ∷ (replicate 16 late ++ declared 0 0 0 ∷ [])
     ∷ []
 
+-- what admission tells of each
 abbrev pub listCase : Case
 listCase =
     record {

@@ -149,6 +149,8 @@ fn bad_numbers() {
     lane = close(close(lane, 16), 18446744073709551615);
     case(b"a shut flow");
     lane = close(offer(lane, 1, 0), 1);
+    case(b"weights");
+    lane = open(open(lane, 15, 18446744073709551615), 15, 4294967297);
     case(b"lengths");
     lane = open(open(lane, 15, 1), 15, 0);
     lane = offer(offer(lane, 15, 0), 15, 1501);
@@ -164,13 +166,9 @@ fn unreachable_states() {
     offer(written(0, 1, 0, 4611686018426667185), 0, 1);
     case(b"numbers at the limit and one past it");
     offers(written(0, 1, 4611686018427387904, 0), 0, 2);
-    case(b"full before used up");
+    case(b"a bad length before full, and full before used up");
     let full = offers(written(4611686018415856384, 1, 0, 0), 0, 17);
-    offer(begin(full), 0, 1);
-    case(b"a bad length before used up and before full");
-    let used_up = written(18446744073709551615, 1, 0, 0);
-    offer(offer(used_up, 0, 1501), 0, 1);
-    offer(offers(written(0, 1, 0, 0), 0, 17), 0, 0);
+    offer(begin(offer(full, 0, 1501)), 0, 1);
     case(b"the last numbers of all");
     offer(written(18446744073709551615, 1, 0, 0), 0, 1);
     offer(written(0, 1, 18446744073709551615, 0), 0, 1500);

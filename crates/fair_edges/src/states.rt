@@ -1,4 +1,4 @@
-// Lanes written out, which no session can reach.
+// Lanes that are written out, and not come to by calls.
 use fair::Fair;
 use fair::Service;
 use tags::Flow;

@@ -2,10 +2,10 @@
 use mathlib.Core.Path.{refl}
 use native.Mathlib.Omega.{arith}
 use Rattle.units.proofs.Charges.{product-rule}
+use Rattle.units.proofs.Refusals.{never-4}
 use Rattle.admission.proofs.Published.{published}
 use Rattle.station.specs.Calls.{callOf}
 use Rattle.station.proofs.InKind.{answered-in-kind}
-use Rattle.units.proofs.Refusals.{never-4}
 use Rattle.station.proofs.Laws.{refused-first, number-told, grounds-in-order, refused-same}
 use Rattle.lines.proofs.Texts.{reads-one-text}
 use Rattle.session.proofs.Pieces.{fed-in-pieces, takes-on}
@@ -19,7 +19,7 @@ use Rattle.promises_fair.proofs.Account.{offer-told as packet-told}
 use Rattle.promises.specs.Run.{fresh, run}
 use Rattle.promises.specs.Promises.{Promises}
 use Rattle.promises.proofs.Run.{run-on, good-run, fair-run, time-run, refused-as-told, urgent-only, fair-only}
-use Rattle.promises.proofs.Sessions.{calls-answered, others-answered}
+use Rattle.promises.proofs.Sessions.{calls-answered, others-answered, refusals-written}
 
 pub promises : Promises
 unfolding callOf
@@ -63,6 +63,7 @@ promises =
       P1 = reads-one-text;
       P1-others = others-answered;
       P2 = calls-answered;
+      P2-refusals = refusals-written;
       P3 = fed-in-pieces;
       P3-takes = takes-on;
     }

@@ -24,7 +24,7 @@ use Rattle.station.specs.InKind.{AnsweredInKind}
 use Rattle.station.specs.Laws.{RefusedFirst, NumberTold, GroundsInOrder, RefusedSame, isUrgent}
 use Rattle.lines.specs.Reading.{ReadsOneText}
 use Rattle.session.specs.Laws.{FedInPieces, TakesOn}
-use Rattle.promises.specs.Sessions.{CallsAnswered, OthersAnswered}
+use Rattle.promises.specs.Sessions.{CallsAnswered, OthersAnswered, RefusalsWritten}
 use Rattle.promises.specs.Run.{Run, run, runFrom, replyTo, onUrgent, onFair, replies, repliesTo, only}
 
 -- calls of the fair lane
@@ -123,7 +123,7 @@ pub record Promises : Type 0 where
   pub F4-charges : ProductRule
   -- F5: a packet that waits or is in service is of an open flow, and its charge is that of the weight still in force
   pub F5 : (calls : List Call) → FairTermsStand (run calls .packets)
-  -- A1: admission is the published link test
+  -- A1: admission is the published link test, and a list is refused exactly for its length or its first bad number, told with its place
   pub A1 : Published
   -- R1: slots passed are below 65,536 and lead from the earlier count to the later; equal counts give 0
   pub R1 :
@@ -137,6 +137,8 @@ pub record Promises : Type 0 where
   pub P1-others : OthersAnswered
   -- P2: a call's text is answered by exactly the line of its reply
   pub P2 : CallsAnswered
+  -- and a refusal is written by its number
+  pub P2-refusals : RefusalsWritten
   -- P3: a whole session is one definition, bytes to bytes, and fed in any pieces the program's steps write it
   pub P3 : FedInPieces
   -- and with room for a line, no piece is left waiting

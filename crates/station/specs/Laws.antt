@@ -37,7 +37,7 @@ RefusedFirst = (s : Station) (call : Call) → refusalIn (callOf s call .reply) 
 abbrev pub NumberTold : Type 0
 NumberTold = (s : Station) (call : Call) → told (callOf s call .reply) .number ≡ numberIn (firstOf (groundsOf s call))
 
--- the numbers that a call can be refused with, each given only where none before it is
+-- the numbers that a call can be refused with, in the order in which they are judged
 abbrev pub orderOf : Call → List ℕ
 orderOf (OpenUrgent flow deadline) = 1 ∷ 3 ∷ 14 ∷ []
 orderOf (OpenFair flow weight) = 1 ∷ 3 ∷ 13 ∷ []
@@ -50,7 +50,7 @@ orderOf LostTurn = 7 ∷ []
 orderOf Begin = 8 ∷ 9 ∷ []
 orderOf End = 10 ∷ []
 
--- The grounds of every call stand in the order of these numbers.
+-- The grounds of every call have just these numbers, in this order.
 abbrev pub GroundsInOrder : Type 0
 GroundsInOrder = (s : Station) (call : Call) → map (λ (g : Ground). numberOf (g .0)) (groundsOf s call) ≡ orderOf call
 
