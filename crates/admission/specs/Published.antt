@@ -65,6 +65,7 @@ pub record ToldAs : Type 0 where
 
 -- the published test, statement by statement
 pub record Published : Type 0 where
+  -- each verdict tells the rules' number and values
   pub told-as : ToldAs
   -- 16 is given exactly where the list is longer than sixteen
   pub list16 : (ds : List Declaration) → (admitOf ds ≡ Refused ListTooLong) ↔ (16 < length ds)

@@ -1,4 +1,4 @@
--- The verdict on a list: refused if too long, else refused for the first bad number with its declaration's place, else the smallest t that fails, else admitted.
+-- The verdict on a list: its length is judged first, then the numbers of each declaration, then the demand.
 use mathlib.Core.Bool.{Bool, cond}
 use mathlib.Core.List.{List, [], _∷_}
 use mathlib.Core.Option.{Option, none, some}
