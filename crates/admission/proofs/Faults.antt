@@ -66,9 +66,8 @@ fault-at j (d ∷ ds) (suc k) refusal l ws e =
 lawful : (d : Declaration) → Within d → Lawful d
 lawful d w = record { burst16 = w .0 .1; period1 = positive (d .period) (w .1 .0) (w .1 .1) }
 
-all-good : (ds : List Declaration) (f : Fault) → Found 0 ds f → f ≡ Nothing → GoodTo ds (length ds)
-all-good ds _ (nothing ws) e = ws
-all-good ds _ (one refusal k place q l ws x) e = let z : _≡_ {A = ℕ} 0 1 = cc in absurd (omega arith)
+all-good : {j : ℕ} {ds : List Declaration} → Found j ds Nothing → GoodTo ds (length ds)
+all-good (nothing ws) = ws
 
 -- a table of few declarations without a fault can be summed
 pub ready : (table : Table) → length (table .items) ≡ 16 → table .count ≤ 16 → firstBad 0 (heldOf table) ≡ Nothing → Ready table
@@ -77,7 +76,7 @@ ready table len few e = record { few = few; lawful = λ k l. at k l }
     at : (k : ℕ) → k < table .count → Lawful (getD (table .items) k noDeclaration)
     at k l =
         let m : length (heldOf table) ≡ table .count = length-take-le (table .count) (table .items) (omega arith) in
-        let w = all-good (heldOf table) (firstBad 0 (heldOf table)) (found 0 (heldOf table)) e k (omega arith) in
+        let w = all-good (rw e at (found 0 (heldOf table))) k (omega arith) in
         lawful (getD (table .items) k noDeclaration) (rw (getD-take (table .count) (table .items) k noDeclaration l) at w)
 
 -- the verdict: too long, a fault, or the test's
