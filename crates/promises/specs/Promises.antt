@@ -32,8 +32,8 @@ abbrev pub isFair : Call → Bool
 isFair call = not (isUrgent call)
 
 -- the refusals in the order of their numbers
-abbrev pub inOrder : List Refusal
-inOrder =
+abbrev pub byNumber : List Refusal
+byNumber =
     NoSuchFlow
     ∷ NotOpen
     ∷ AlreadyOpen
@@ -79,7 +79,7 @@ pub record Promises : Type 0 where
   pub S2-number : NumberTold
   pub S2-order : GroundsInOrder
   -- and the refusals have the rules' numbers, of which 4 is none
-  pub S2-numbers : map numberOf inOrder ≡ 1 ∷ 2 ∷ 3 ∷ 5 ∷ 6 ∷ 7 ∷ 8 ∷ 9 ∷ 10 ∷ 11 ∷ 12 ∷ 13 ∷ 14 ∷ 15 ∷ 16 ∷ 17 ∷ 18 ∷ []
+  pub S2-numbers : map numberOf byNumber ≡ 1 ∷ 2 ∷ 3 ∷ 5 ∷ 6 ∷ 7 ∷ 8 ∷ 9 ∷ 10 ∷ 11 ∷ 12 ∷ 13 ∷ 14 ∷ 15 ∷ 16 ∷ 17 ∷ 18 ∷ []
   pub S2-never4 : (refusal : Refusal) → numberOf refusal ≡ 4 → ⊥
   -- S3: the lanes share nothing: the replies to one lane's calls are the replies to those calls alone
   pub S3-urgent : (calls : List Call) → repliesTo isUrgent freshStation calls ≡ replies freshStation (only isUrgent calls)
