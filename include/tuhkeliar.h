@@ -61,7 +61,7 @@ typedef struct {
 
 typedef struct {
     tuhkeliar_tag time;
-    tuhkeliar_tag ended;
+    tuhkeliar_tag largest;
     tuhkeliar_service service;
     tuhkeliar_fair_flow flows[16];
     tuhkeliar_packet packets[256];

@@ -76,7 +76,7 @@ static bool laid_out(void) {
     tuhkeliar_packet p = s.fair.packets[34];
     tuhkeliar_service b = s.fair.service;
     return s.urgent.now.slot == 1 && u.opened && u.deadline == 9 && u.next == 2 && c.held && c.number == 1 && c.last.slot == 9
-        && s.fair.time.tag == 720720 && s.fair.ended.tag == 2402400 && b.busy && b.flow == 5 && b.number == 1 && b.length == 2
+        && s.fair.time.tag == 720720 && s.fair.largest.tag == 2402400 && b.busy && b.flow == 5 && b.number == 1 && b.length == 2
         && b.finish.tag == 2162160 && f.opened && f.weight == 3 && f.next == 3 && f.finish.tag == 14414400 && p.held && p.number == 2
         && p.length == 30 && p.start.tag == 7207200 && p.finish.tag == 14414400;
 }

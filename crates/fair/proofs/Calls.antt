@@ -111,7 +111,7 @@ module _ (u : Fair) (flow bytes : ℕ) where
               → record {
                 lane = record {
                   time = u .time;
-                  ended = u .ended;
+                  largest = u .largest;
                   service = u .service;
                   flows = set (u .flows) flow (record { opened = true; weight = flowAt u flow .weight; next = flowAt u flow .next + 1; finish = finish });
                   packets = set (u .packets) (flow * 16 + k) (record { held = true; number = flowAt u flow .next; length = bytes; start = start; finish = finish });
@@ -155,14 +155,14 @@ module _ (u : Fair) where
 
     pub end-drained : waiting u ≡ 0
         → record {
-          lane = record { time = largest; ended = largest; service = idle; flows = u .flows; packets = u .packets };
+          lane = record { time = largest; largest = largest; service = idle; flows = u .flows; packets = u .packets };
           answer = Ended (u .service .flow) (u .service .number) (u .service .length);
         } ≡ endOf u
     end-drained w = rw (← ends, eq-eqb (waiting u) 0 w, g)
 
     pub end-waits : 0 < waiting u
         → record {
-          lane = record { time = u .time; ended = largest; service = idle; flows = u .flows; packets = u .packets };
+          lane = record { time = u .time; largest = largest; service = idle; flows = u .flows; packets = u .packets };
           answer = Ended (u .service .flow) (u .service .number) (u .service .length);
         } ≡ endOf u
     end-waits w = rw (← ends, ne-eqb (waiting u) 0 (λ z. omega arith), g)

@@ -31,7 +31,7 @@ unless u (some r) done = refused u r
 -- the lane with another record of a flow
 abbrev pub withFlow : Fair → ℕ → Flow → Fair
 withFlow u flow x =
-    record { time = u .time; ended = u .ended; service = u .service; flows = set (u .flows) flow x; packets = u .packets }
+    record { time = u .time; largest = u .largest; service = u .service; flows = set (u .flows) flow x; packets = u .packets }
 
 -- opening: the flow's numbers and its last finish go on where they stood
 abbrev pub opened : Fair → ℕ → ℕ → Done
@@ -66,7 +66,7 @@ accepted u flow length =
       lane =
           record {
             time = u .time;
-            ended = u .ended;
+            largest = u .largest;
             service = u .service;
             flows =
                 set (u .flows) flow
@@ -91,7 +91,7 @@ begun u (at place p) =
       lane =
           record {
             time = p .start;
-            ended = u .ended;
+            largest = u .largest;
             service = record { busy = true; flow = flowOf placeCount place; number = p .number; length = p .length; finish = p .finish };
             flows = u .flows;
             packets = set (u .packets) place freePacket;
@@ -110,7 +110,7 @@ ended u =
       lane =
           record {
             time = cond (eqb (waiting u) 0) (largestEnded u) (u .time);
-            ended = largestEnded u;
+            largest = largestEnded u;
             service = idle;
             flows = u .flows;
             packets = u .packets;

@@ -25,7 +25,7 @@ abbrev pub freshLane : Fair
 freshLane =
     record {
       time = record { 0 = 0 };
-      ended = record { 0 = 0 };
+      largest = record { 0 = 0 };
       service = idle;
       flows = replicate 16 shutFlow;
       packets = replicate 256 freePacket;
@@ -65,7 +65,7 @@ chosen u = leastHeld isHeld keyOf (u .packets)
 
 -- the largest finish tag of all packets ended, once the packet in service has ended
 abbrev pub largestEnded : Fair → Tag
-largestEnded u = laterOf (u .ended) (u .service .finish)
+largestEnded u = laterOf (u .largest) (u .service .finish)
 
 -- the refusals of begin, in the order in which they are given
 abbrev pub beginGrounds : Fair → List Ground

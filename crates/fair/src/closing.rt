@@ -61,11 +61,11 @@ impl Fair {
             finish: finish,
         };
         let time = self.time;
-        let ended = self.ended;
+        let largest = self.largest;
         Done {
             lane: Fair {
                 time,
-                ended,
+                largest,
                 service,
                 flows,
                 packets,

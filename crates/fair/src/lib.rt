@@ -27,7 +27,7 @@ pub struct Service {
 #[repr(C)]
 pub struct Fair {
     pub time: Tag,
-    pub ended: Tag,
+    pub largest: Tag,
     pub service: Service,
     pub flows: [Flow; 16],
     pub packets: [Packet; 256],
@@ -59,7 +59,7 @@ impl Fair {
     {
         Fair {
             time: Tag(0),
-            ended: Tag(0),
+            largest: Tag(0),
             service: Service {
                 busy: false,
                 flow: 0,
@@ -116,13 +116,13 @@ impl Fair {
             finish: finish,
         };
         let time = self.time;
-        let ended = self.ended;
+        let largest = self.largest;
         let service = self.service;
         let packets = self.packets;
         Done {
             lane: Fair {
                 time,
-                ended,
+                largest,
                 service,
                 flows,
                 packets,

@@ -82,12 +82,12 @@ impl Fair {
             next: was.next + 1,
             finish: finish,
         };
-        let ended = self.ended;
+        let largest = self.largest;
         let service = self.service;
         Done {
             lane: Fair {
                 time,
-                ended,
+                largest,
                 service,
                 flows,
                 packets,

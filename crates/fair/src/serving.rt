@@ -60,12 +60,12 @@ impl Fair {
             length: taken.length,
             finish: finish,
         };
-        let ended = self.ended;
+        let largest = self.largest;
         let flows = self.flows;
         Done {
             lane: Fair {
                 time: start,
-                ended,
+                largest,
                 service: served,
                 flows,
                 packets,
@@ -95,9 +95,9 @@ impl Fair {
             }
             i += 1;
         }
-        let ended = self.ended;
+        let so_far = self.largest;
         let finish = service.finish;
-        let largest = tags::later(ended, finish);
+        let largest = tags::later(so_far, finish);
         let idle = Service {
             busy: false,
             flow: 0,
@@ -113,7 +113,7 @@ impl Fair {
         Done {
             lane: Fair {
                 time,
-                ended: largest,
+                largest: largest,
                 service: idle,
                 flows,
                 packets,

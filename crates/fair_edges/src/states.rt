@@ -20,9 +20,9 @@ pub(crate) fn written(time: u64, weight: u64, next: u64, finish: u64) -> Fair {
 }
 
 // A lane with a packet in service that would finish here, and with the largest finish so far.
-pub(crate) fn serving(finish: u64, ended: u64) -> Fair {
+pub(crate) fn serving(finish: u64, largest: u64) -> Fair {
     let mut lane = written(0, 1, 0, 0);
-    let so_far = Tag(ended);
+    let so_far = Tag(largest);
     let service = Service {
         busy: true,
         flow: 3,
@@ -30,7 +30,7 @@ pub(crate) fn serving(finish: u64, ended: u64) -> Fair {
         length: 9,
         finish: Tag(finish),
     };
-    lane.ended = so_far;
+    lane.largest = so_far;
     lane.service = service;
     lane
 }

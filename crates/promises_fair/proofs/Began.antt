@@ -116,7 +116,7 @@ module _
         finishes = k .finishes;
         tied = λ ask. omega (arith, waits-less ask, set-out ask, k .tied ask);
         time = refl;
-        ended = k .ended;
+        largest = k .largest;
         service = (refl, refl, refl, refl, sym (chosen-finish u marks ps ms k place p e t));
       }
 

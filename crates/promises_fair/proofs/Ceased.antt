@@ -57,7 +57,7 @@ module _
 
   largest-told : largestOf u .0 ≡ largest
   unfolding largest
-  largest-told = omega (arith, later-max (u .ended) (u .service .finish), k .ended, this .finish)
+  largest-told = omega (arith, later-max (u .largest) (u .service .finish), k .largest, this .finish)
 
   pub kept-end : Kept (ended u .lane) marks ps (ends (u .service) ps ms position ∷ ms)
   unfolding virtualTime largestEnded wasBegun largest
@@ -72,7 +72,7 @@ module _
         finishes = k .finishes;
         tied = k .tied;
         time = rw (waiting-all u marks ps ms k) (go (eqb (count (notBegun ms) ps) 0));
-        ended = largest-told;
+        largest = largest-told;
         service = refl;
       }
     where

@@ -43,7 +43,7 @@ good-fresh =
             finishes = λ f b. ap (λ (x : Flow). x .finish .0) (getD-replicate 16 f shutFlow shutFlow b);
             tied = λ ask. at-replicate (holds ask) freePacket (λ k. refl) 0 256;
             time = refl;
-            ended = refl;
+            largest = refl;
             service = refl;
           };
       paced = record { few = λ f. zero-le; numbered = tt; rising = tt; inOrder = tt; begun = λ f. zero-le; inHand = tt; onTime = refl };

@@ -62,7 +62,7 @@ pub record Kept (u : Fair) (marks : List Mark) (ps : List Packet) (ms : List Mom
   pub finishes : (f : ℕ) → f < 16 → flowAt u f .finish .0 ≡ lastFinish ps f
   pub tied : (ask : Question) → countAt (holds ask) 0 (u .packets) ≡ asked ps ms ask
   pub time : u .time .0 ≡ virtualTime ms
-  pub ended : u .ended .0 ≡ largestEnded ms
+  pub largest : u .largest .0 ≡ largestEnded ms
   pub service : Serves (u .service) ps ms
 
 -- a packet in service is accepted, and finishes no earlier than it starts
@@ -135,7 +135,7 @@ module _ (u : Fair) (marks : List Mark) (ps : List Packet) (ms : List Moment) (k
           finishes = λ f b. ap (λ (y : Tag). y .0) (set-keeps (u .flows) flow x shutFlow low (λ (y : Flow). y .finish) finish f) ∙ k .finishes f b;
           tied = k .tied;
           time = k .time;
-          ended = k .ended;
+          largest = k .largest;
           service = k .service;
         }
 

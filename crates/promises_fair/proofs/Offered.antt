@@ -169,6 +169,6 @@ module _
         tied = λ ask.
             omega (arith, set-in ask, k .tied ask, ap bit (and-holds (asks ask new) (notBegun ms new) new-waits));
         time = k .time;
-        ended = k .ended;
+        largest = k .largest;
         service = serves-more new ps numbered (u .service) ms (t .inHand) (k .service);
       }
