@@ -167,4 +167,4 @@ sends-earliest u h k = go (leb slotLimit (u .now .0)) refl (leastHeld isHeld key
         → Earliest h (unless u (cond t (some SlotsUsedUp) none) (turned u x) .answer)
     go true p x e = omega (arith, k .time, leb-true slotLimit (u .now .0) p)
     go false p nothing e = none-passes (waits h) (h .accepted) (none-wait u h k e (λ f n l. true))
-    go false p (at place c) e = sent-first u h k place c e (count (lastIs (u .now .0)) (set (u .cells) place freeCell))
+    go false p (at place c) e = sent-first u h k place c e (count (lastIs (u .now)) (set (u .cells) place freeCell))

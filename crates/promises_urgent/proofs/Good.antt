@@ -113,11 +113,11 @@ module _ (u : Urgent) (h : Cells) (g : Good u h) where
       })
 
   -- a turn that sends nothing
-  good-idle : u .now .0 < slotLimit → (usable : List ℕ) → Best (endCells h usable (h .missed + count (lastIs (u .now .0)) (u .cells)))
+  good-idle : u .now .0 < slotLimit → (usable : List ℕ) → Best (endCells h usable (h .missed + count (lastIs (u .now)) (u .cells)))
       → Reasons (endCells h usable (h .missed)) → Sends (endCells h usable (h .missed))
-      → Good (endLane u) (endCells h usable (h .missed + count (lastIs (u .now .0)) (u .cells)))
+      → Good (endLane u) (endCells h usable (h .missed + count (lastIs (u .now)) (u .cells)))
   good-idle low usable best reasons sends =
-      let missed = h .missed + count (lastIs (u .now .0)) (u .cells) in
+      let missed = h .missed + count (lastIs (u .now)) (u .cells) in
       record {
         kept = kept-end u h (g .kept) low usable missed;
         few = few-turn u h (g .kept) (g .few) (endCells h usable missed) refl refl;
@@ -138,9 +138,9 @@ module _ (u : Urgent) (h : Cells) (g : Good u h) where
     first = none-earlier h place c (none-before u h (g .kept) place c e)
 
     missed : ℕ
-    missed = h .missed + count (lastIs (u .now .0)) (set (u .cells) place freeCell)
+    missed = h .missed + count (lastIs (u .now)) (set (u .cells) place freeCell)
 
-    good-sent : Good (endLane (without u place)) (endCells (sentCells h place c) (h .slot ∷ h .usable) (h .missed + count (lastIs (u .now .0)) (set (u .cells) place freeCell)))
+    good-sent : Good (endLane (without u place)) (endCells (sentCells h place c) (h .slot ∷ h .usable) (h .missed + count (lastIs (u .now)) (set (u .cells) place freeCell)))
     unfolding missed
     good-sent =
         let k = kept-sent u h (g .kept) place c (lead .0) (lead .1) (lead .2) in
@@ -163,14 +163,14 @@ module _ (u : Urgent) (h : Cells) (g : Good u h) where
         }
 
   good-turned : u .now .0 < slotLimit → (usable : Bool) → Good (turned u (chosen u usable) .lane) (noteTurn h usable (turned u (chosen u usable) .answer))
-  good-turned low false = good-idle low (h .usable) (best-lost h (g .best) (h .missed + count (lastIs (u .now .0)) (u .cells)))
+  good-turned low false = good-idle low (h .usable) (best-lost h (g .best) (h .missed + count (lastIs (u .now)) (u .cells)))
       (reasons-lost h (g .reasons) (g .kept .numbered)) (sends-lost h (g .sends))
   good-turned low true = go (leastHeld isHeld keyOf (u .cells)) refl
     where
       go : (x : Choice Place) → leastHeld isHeld keyOf (u .cells) ≡ x → Good (turned u x .lane) (noteTurn h true (turned u x .answer))
       go nothing e =
           good-idle low (h .slot ∷ h .usable)
-          (best-idle h (g .best) (h .missed + count (lastIs (u .now .0)) (u .cells)) (λ t. none-wait u h (g .kept) e (λ f n l. leb t l)))
+          (best-idle h (g .best) (h .missed + count (lastIs (u .now)) (u .cells)) (λ t. none-wait u h (g .kept) e (λ f n l. leb t l)))
           (reasons-idle h (g .reasons) (g .kept .numbered) (none-wait u h (g .kept) e)) (sends-idle h (g .sends))
       go (at place c) e = good-sent low place c e
 

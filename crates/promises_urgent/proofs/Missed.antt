@@ -50,14 +50,14 @@ module _ (u : Urgent) (h : Cells) (k : Kept u h) (usable : List ℕ) (missed : �
       go false false p false q true r d t = absurd (omega (arith, k .time, ltb-false l (suc (h .slot)) p, eqb-true l (u .now .0) r))
       go false false p false q false r d t = refl
 
-  pub missed-end : count (isMissed (endCells h usable missed)) (h .accepted) ≡ count (isMissed h) (h .accepted) + count (lastIs (u .now .0)) (u .cells)
+  pub missed-end : count (isMissed (endCells h usable missed)) (h .accepted) ≡ count (isMissed h) (h .accepted) + count (lastIs (u .now)) (u .cells)
   missed-end =
       omega (
         arith,
         count-add (isMissed (endCells h usable missed)) (isMissed h) (λ (a : Cell). eqb (a .last) (u .now .0) && waits h a)
             (λ a. late-bit (wasSent (h .sent) (a .flow) (a .number)) (a .last)) (h .accepted),
         k .tied (λ f n l. eqb l (u .now .0)),
-        at-count (lastIs (u .now .0)) 0 (u .cells),
+        at-count (lastIs (u .now)) 0 (u .cells),
       )
 
 -- a cell that is sent is not missed

@@ -189,7 +189,7 @@ module _ (u : Urgent) (h : Cells) (k : Kept u h) (place : ℕ) (c : Place) (low 
 
 -- ---- a turn's end
 abbrev pub endLane : Urgent → Urgent
-endLane u = record { now = record { 0 = u .now .0 + 1 }; flows = u .flows; cells = clearedAll (lastIs (u .now .0)) freeCell (u .cells) }
+endLane u = record { now = record { 0 = u .now .0 + 1 }; flows = u .flows; cells = clearedAll (lastIs (u .now)) freeCell (u .cells) }
 
 abbrev pub endCells : Cells → List ℕ → ℕ → Cells
 endCells h usable missed =
@@ -200,7 +200,7 @@ module _ (u : Urgent) (h : Cells) (k : Kept u h) (low : u .now .0 < slotLimit) (
   later : Question → Question
   later ask f n l = ask f n l && not (eqb l (u .now .0))
 
-  cleared-bit : (ask : Question) (j : ℕ) (x : Place) → bit (holds ask j (cleared (lastIs (u .now .0)) freeCell x)) ≡ bit (holds (later ask) j x)
+  cleared-bit : (ask : Question) (j : ℕ) (x : Place) → bit (holds ask j (cleared (lastIs (u .now)) freeCell x)) ≡ bit (holds (later ask) j x)
   unfolding later
   cleared-bit ask j x = go (x .held) refl (eqb (x .last .0) (u .now .0)) (ask (flowOf placeCount j) (x .number) (x .last .0)) refl
     where
@@ -236,7 +236,7 @@ module _ (u : Urgent) (h : Cells) (k : Kept u h) (low : u .now .0 < slotLimit) (
   kept-end =
       record {
         sixteen = k .sixteen;
-        long = length-map (u .cells) (cleared (lastIs (u .now .0)) freeCell) ∙ k .long;
+        long = length-map (u .cells) (cleared (lastIs (u .now)) freeCell) ∙ k .long;
         time = omega (arith, k .time);
         within = omega (arith, k .time);
         openFlows = k .openFlows;
@@ -245,7 +245,7 @@ module _ (u : Urgent) (h : Cells) (k : Kept u h) (low : u .now .0 < slotLimit) (
         next = k .next;
         numbered = k .numbered;
         tied = λ ask.
-            at-map (holds ask) (holds (later ask)) (cleared (lastIs (u .now .0)) freeCell) (cleared-bit ask) 0 (u .cells)
+            at-map (holds ask) (holds (later ask)) (cleared (lastIs (u .now)) freeCell) (cleared-bit ask) 0 (u .cells)
             ∙ k .tied (later ask)
             ∙ sym (count-same (λ (a : Cell). ask (a .flow) (a .number) (a .last) && waits (endCells h usable missed) a) (λ a. later ask (a .flow) (a .number) (a .last) && waits h a)
             (λ a. rw (next-slot (a .last)) (shuffle (ask (a .flow) (a .number) (a .last)) (not (wasSent (h .sent) (a .flow) (a .number))) (not (eqb (a .last) (u .now .0))) (leb (h .slot) (a .last))))

@@ -5,9 +5,11 @@ use mathlib.Core.List.{List}
 use Prim.Native.Nat.{ℕ, _+_, _-_, _*_, _%_, _/_, _^_, _≤_, _<_}
 use native.Mathlib.Omega.{arith}
 use borrow.Author.Tests.{lt-ltb, le-ltb, le-leb, lt-leb}
+use lib.Dec.{ltb, leb}
 use lib.ListN.{length, set}
 use Rattle.units.specs.Limits.{placeCount, slotLimit, badDeadline}
 use Rattle.units.specs.Refusals.{firstOf}
+use Rattle.units.specs.declared.Slot.{Slot}
 use Rattle.units.specs.declared.Refusal.the-variants.{NoSuchFlow, NotOpen, AlreadyOpen, PlacesFull, SlotsUsedUp, FlowInUse, BadDeadline}
 use Rattle.places.specs.Places.{count, placesOf, firstFree, clearedAll}
 use Rattle.places.specs.Choice.{nothing, at}
@@ -77,39 +79,40 @@ module _ (u : Urgent) (flow : ℕ) where
       unfolding offerOf firstOf
       offer-5 f = rw (le-ltb 15 flow h, o, le-leb 16 (count isHeld (placesOf placeCount flow (u .cells))) (full f))
 
-      module _ (f : k < 16) (late : Bool) (t : late ≡ lib.Dec.ltb slotLimit (u .now .0 + flowAt u flow .deadline)) where
+      module _ (f : k < 16) (late : Bool) (t : late ≡ ltb slotLimit (u .now .0 + flowAt u flow .deadline)) where
         pub offer-7 : late ≡ true → refused u SlotsUsedUp ≡ offerOf u flow
         unfolding offerOf firstOf
         offer-7 p = rw (le-ltb 15 flow h, o, lt-leb 16 (count isHeld (placesOf placeCount flow (u .cells))) (room f), ← t, p)
 
-        pub offer-ok : late ≡ false → (last next : ℕ) → last ≡ u .now .0 + flowAt u flow .deadline - 1 → next ≡ (flowAt u flow .next + 1) % 2 ^ 64
+        pub offer-ok : late ≡ false → (last : Slot) (next : ℕ) → last ≡ record { 0 = u .now .0 + flowAt u flow .deadline - 1 } → next ≡ (flowAt u flow .next + 1) % 2 ^ 64
             → record {
               lane = record {
                 now = u .now;
                 flows = set (u .flows) flow (record { opened = true; deadline = flowAt u flow .deadline; next = next });
-                cells = set (u .cells) (flow * 16 + k) (record { held = true; number = flowAt u flow .next; last = record { 0 = last } });
+                cells = set (u .cells) (flow * 16 + k) (record { held = true; number = flowAt u flow .next; last = last });
               };
-              answer = Accepted (flowAt u flow .next) (record { 0 = last });
+              answer = Accepted (flowAt u flow .next) last;
             } ≡ offerOf u flow
         unfolding offerOf firstOf
         offer-ok p last next a b =
             rw (le-ltb 15 flow h, o, lt-leb 16 (count isHeld (placesOf placeCount flow (u .cells))) (room f), ← t, p, ← e, a, b)
 
 module _ (u : Urgent) (usable : Bool) where
-  pub turn-7 : slotLimit ≤ u .now .0 → refused u SlotsUsedUp ≡ turnOf u usable
+  pub turn-7 : leb slotLimit (u .now .0) ≡ true → refused u SlotsUsedUp ≡ turnOf u usable
   unfolding turnOf firstOf
-  turn-7 h = rw (le-leb slotLimit (u .now .0) h)
+  turn-7 h = rw h
 
   -- the answer tells of the cell c from a place, or of none where c is free
-  module _ (h : u .now .0 < slotLimit) (cells : List Cell) (missed place : ℕ) (c : Cell) (answer : Answer) (told : answer ≡ cond (isHeld c) (Sent (place / 16) (c .number) missed) (Idle missed)) where
+  module _ (h : leb slotLimit (u .now .0) ≡ false) (next : Slot) (n : next ≡ record { 0 = u .now .0 + 1 })
+      (cells : List Cell) (missed place : ℕ) (c : Cell) (answer : Answer) (told : answer ≡ cond (isHeld c) (Sent (place / 16) (c .number) missed) (Idle missed)) where
     pub turn-sent : isHeld c ≡ true → chosen u usable ≡ at place c
-        → (cells ≡ clearedAll (lastIs (u .now .0)) freeCell (set (u .cells) place freeCell)) × (missed ≡ count (lastIs (u .now .0)) (set (u .cells) place freeCell))
-        → record { lane = record { now = record { 0 = u .now .0 + 1 }; flows = u .flows; cells = cells }; answer = answer } ≡ turnOf u usable
+        → (cells ≡ clearedAll (lastIs (u .now)) freeCell (set (u .cells) place freeCell)) × (missed ≡ count (lastIs (u .now)) (set (u .cells) place freeCell))
+        → record { lane = record { now = next; flows = u .flows; cells = cells }; answer = answer } ≡ turnOf u usable
     unfolding turnOf firstOf
-    turn-sent t e q = rw (lt-leb slotLimit (u .now .0) h, e, told, t, q .0, q .1)
+    turn-sent t e q = rw (h, n, e, told, t, q .0, q .1)
 
     pub turn-idle : isHeld c ≡ false → chosen u usable ≡ nothing
-        → (cells ≡ clearedAll (lastIs (u .now .0)) freeCell (u .cells)) × (missed ≡ count (lastIs (u .now .0)) (u .cells))
-        → record { lane = record { now = record { 0 = u .now .0 + 1 }; flows = u .flows; cells = cells }; answer = answer } ≡ turnOf u usable
+        → (cells ≡ clearedAll (lastIs (u .now)) freeCell (u .cells)) × (missed ≡ count (lastIs (u .now)) (u .cells))
+        → record { lane = record { now = next; flows = u .flows; cells = cells }; answer = answer } ≡ turnOf u usable
     unfolding turnOf firstOf
-    turn-idle t e q = rw (lt-leb slotLimit (u .now .0) h, e, told, t, q .0, q .1)
+    turn-idle t e q = rw (h, n, e, told, t, q .0, q .1)

@@ -84,9 +84,9 @@ ended u cells answer =
           record {
             now = record { 0 = u .now .0 + 1 };
             flows = u .flows;
-            cells = clearedAll (lastIs (u .now .0)) freeCell cells;
+            cells = clearedAll (lastIs (u .now)) freeCell cells;
           };
-      answer = answer (count (lastIs (u .now .0)) cells);
+      answer = answer (count (lastIs (u .now)) cells);
     }
 
 -- an open turn sends the waiting cell that goes first, if any waits; a lost turn sends nothing

@@ -6,6 +6,7 @@ use lib.Dec.{ltb, leb, eqb}
 use lib.ListN.{getD, replicate}
 use Rattle.units.specs.Limits.{placeCount, slotLimit, noSuchFlow, badDeadline}
 use Rattle.units.specs.Refusals.{Ground}
+use Rattle.units.specs.declared.Slot.{Slot}
 use Rattle.units.specs.declared.Refusal.the-variants.{NoSuchFlow, NotOpen, AlreadyOpen, PlacesFull, SlotsUsedUp, FlowInUse, BadDeadline}
 use Rattle.places.specs.Places.{count, placesOf, flowOf}
 use Rattle.places.specs.Choice.{Key}
@@ -40,8 +41,8 @@ abbrev pub keyOf : ℕ → Cell → Key
 keyOf place c = record { rank = c .last .0; flow = flowOf placeCount place; number = c .number }
 
 -- a waiting cell's last slot is now
-abbrev pub lastIs : ℕ → Cell → Bool
-lastIs now c = c .held && eqb (c .last .0) now
+abbrev pub lastIs : Slot → Cell → Bool
+lastIs now c = c .held && eqb (c .last .0) (now .0)
 
 -- the refusals of each call, in the order in which they are given
 abbrev pub openingGrounds : Urgent → ℕ → ℕ → List Ground

@@ -1,6 +1,7 @@
 // The urgent lane: sixteen flows with sixteen places each, and one cell sent in each open turn, the one with the earliest last slot.
 mod closing;
 mod offering;
+mod slots;
 mod turning;
 
 ghost use mathlib.Core.Path.{_≡_};

@@ -1,16 +1,15 @@
 // Offering a cell.
 ghost use mathlib.Core.Path.{_≡_};
-ghost use Prim.Native.Nat.{_-_};
 ghost use Rattle.urgent.specs.Calls.{offerOf};
 use crate::Answer;
 use crate::Cell;
 use crate::Done;
 use crate::Flow;
 use crate::Urgent;
+use crate::slots::last_of;
+use crate::slots::window_passes;
 use units::LAST_FLOW;
 use units::Refusal;
-use units::SLOT_LIMIT;
-use units::Slot;
 
 impl Urgent {
     // Offers a cell of a flow.
@@ -48,19 +47,17 @@ impl Urgent {
                 answer: Answer::Refused(Refusal::PlacesFull),
             };
         }
-        let slot = self.now;
-        let now = slot.0;
-        if units::passes(now, was.deadline, SLOT_LIMIT) {
+        if window_passes(self.now, was.deadline) {
             return Done {
                 lane: self,
                 answer: Answer::Refused(Refusal::SlotsUsedUp),
             };
         }
-        let last = before(now + was.deadline);
+        let last = last_of(self.now, was.deadline);
         cells[f * 16 + k] = Cell {
             held: true,
             number: was.next,
-            last: Slot(last),
+            last: last,
         };
         let next = std::num::wrapping_add_u64(was.next, 1);
         flows[f] = Flow {
@@ -68,20 +65,10 @@ impl Urgent {
             deadline: was.deadline,
             next: next,
         };
+        let now = self.now;
         Done {
-            lane: Urgent {
-                now: slot,
-                flows,
-                cells,
-            },
-            answer: Answer::Accepted(was.next, Slot(last)),
+            lane: Urgent { now, flows, cells },
+            answer: Answer::Accepted(was.next, last),
         }
     }
-}
-
-// The slot before slot n; slot 0 has none before it.
-fn before(n: u64) -> u64
-    ensures { λ r. ⌜ r ≡ n - 1 ⌝ }
-{
-    if 0 < n { n - 1 } else { 0 }
 }

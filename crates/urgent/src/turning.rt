@@ -11,8 +11,11 @@ use crate::Answer;
 use crate::Cell;
 use crate::Done;
 use crate::Urgent;
+use crate::slots::after;
+use crate::slots::earlier;
+use crate::slots::same;
+use crate::slots::used_up;
 use units::Refusal;
-use units::SLOT_LIMIT;
 use units::Slot;
 
 impl Urgent {
@@ -20,8 +23,7 @@ impl Urgent {
     pub fn turn(self, usable: bool) -> Done
         ensures { λ r. ⌜ r ≡ turnOf self usable ⌝ }
     {
-        let now = self.now.0;
-        if SLOT_LIMIT <= now {
+        if used_up(self.now) {
             return Done {
                 lane: self,
                 answer: Answer::Refused(Refusal::SlotsUsedUp),
@@ -53,14 +55,13 @@ impl Urgent {
         let mut i: usize = 0;
         while i < 256 {
             let c = cells[i];
-            if expires(c, now) {
+            if expires(c, self.now) {
                 cells[i] = free;
                 missed += 1;
             }
             i += 1;
         }
-        let after = now + 1;
-        let next = Slot(after);
+        let next = after(self.now);
         let flows = self.flows;
         let answer = answering(best, sent, missed);
         Done {
@@ -91,10 +92,10 @@ fn goes_first(c: Cell, k: usize, b: Cell, j: usize) -> bool
 fn goes_before(c: Cell, k: usize, b: Cell, j: usize) -> bool
     ensures { λ r. ⌜ r ≡ comesBefore (keyOf k c) (keyOf j b) ⌝ }
 {
-    if c.last.0 < b.last.0 {
+    if earlier(c.last, b.last) {
         return true;
     }
-    if b.last.0 < c.last.0 {
+    if earlier(b.last, c.last) {
         return false;
     }
     if k / 16 < j / 16 {
@@ -107,11 +108,11 @@ fn goes_before(c: Cell, k: usize, b: Cell, j: usize) -> bool
 }
 
 // Whether a place holds a cell whose last slot is now.
-fn expires(c: Cell, now: u64) -> bool
+fn expires(c: Cell, now: Slot) -> bool
     ensures { λ r. ⌜ r ≡ lastIs now c ⌝ }
 {
     if c.held {
-        return c.last.0 == now;
+        return same(c.last, now);
     }
     false
 }

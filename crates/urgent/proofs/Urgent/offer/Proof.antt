@@ -92,22 +92,19 @@ returns-3 c =
     let start = after .before .before .before .before .before .before .before .before in
     offer-5 (start .args .self) (start .args .flow) (search needs) (after .before .before .before .if2 .left) (cells-known start) (after .before .loop .k) (scanned after) (c .if4 .taken)
 
-passes-requires : tie.Need-passes-requires Inv-loop μ-loop
-passes-requires c κs = search needs
+window-passes-requires : tie.Need-window-passes-requires Inv-loop μ-loop
+window-passes-requires c κs = search needs
 
 returns-4 : tie.Need-returns-4 Inv-loop μ-loop
 returns-4 c =
-    let after = c .before .before .before .before in
+    let after = c .before .before .before in
     let start = after .before .before .before .before .before .before .before .before in
-    offer-7 (start .args .self) (start .args .flow) (search needs) (after .before .before .before .if2 .left) (cells-known start) (after .before .loop .k) (scanned after) (search needs) (c .before .passes .result) (c .before .passes .ensures) (c .if5 .taken)
+    offer-7 (start .args .self) (start .args .flow) (search needs) (after .before .before .before .if2 .left) (cells-known start) (after .before .loop .k) (scanned after) (search needs) (c .before .window-passes .result) (c .before .window-passes .ensures) (c .if5 .taken)
 
-add-before : tie.Need-add-before Inv-loop μ-loop
-add-before c =
-    let s = c .before .before .before .before .before .before .before .before .before .before .before .before .before .args in
-    omega (arith, ltb-false slotLimit (s .self .now .0 + flowAt (s .self) (s .flow) .deadline) (sym (c .before .before .passes .ensures) ∙ c .before .if5 .left))
-
-before-requires : tie.Need-before-requires Inv-loop μ-loop
-before-requires c κs = search needs
+last-of-requires : tie.Need-last-of-requires Inv-loop μ-loop
+last-of-requires c κs =
+    let s = c .before .before .before .before .before .before .before .before .before .before .before .args in
+    ltb-false slotLimit (s .self .now .0 + flowAt (s .self) (s .flow) .deadline) (sym (c .before .window-passes .ensures) ∙ c .if5 .left)
 
 mul-cells : tie.Need-mul-cells Inv-loop μ-loop
 mul-cells c = search needs
@@ -133,10 +130,10 @@ array-set-from-flows c = search needs
 returns-5 : tie.Need-returns-5 Inv-loop μ-loop
 returns-5 c =
     let passed = c .before .before .before .before in
-    let after = passed .before .before .before in
+    let after = passed .before .before in
     let start = after .before .before .before .before .before .before .before .before in
     offer-ok (start .args .self) (start .args .flow) (search needs) (after .before .before .before .if2 .left) (cells-known start) (after .before .loop .k) (scanned after) (search needs)
-    (passed .passes .result) (passed .passes .ensures) (c .before .before .before .if5 .left) (c .before .before2 .result) (c .wrapping-add-u64 .result) (c .before .before2 .ensures) (c .wrapping-add-u64 .ensures)
+    (passed .window-passes .result) (passed .window-passes .ensures) (c .before .before .before .if5 .left) (c .before .before .last-of .result) (c .before .wrapping-add-u64 .result) (c .before .before .last-of .ensures) (c .before .wrapping-add-u64 .ensures)
 
 pub offer-spec : {M : Type 1} → statement M
 offer-spec =
@@ -159,10 +156,9 @@ offer-spec =
     loop-less-2
     loop-again-2
     returns-3
-    passes-requires
+    window-passes-requires
     returns-4
-    add-before
-    before-requires
+    last-of-requires
     mul-cells
     add-cells
     mul-cells-2
