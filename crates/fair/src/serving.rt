@@ -140,10 +140,10 @@ fn goes_first(p: Packet, k: usize, b: Packet, j: usize) -> bool
 fn goes_before(p: Packet, k: usize, b: Packet, j: usize) -> bool
     ensures { λ r. ⌜ r ≡ comesBefore (keyOf k p) (keyOf j b) ⌝ }
 {
-    if p.start.0 < b.start.0 {
+    if tags::earlier(p.start, b.start) {
         return true;
     }
-    if b.start.0 < p.start.0 {
+    if tags::earlier(b.start, p.start) {
         return false;
     }
     if k / 16 < j / 16 {

@@ -1,5 +1,6 @@
 // What every fair queue shares: a flow's record, a packet's, and the tags of a packet that is offered.
 ghost use mathlib.Core.Path.{_≡_};
+ghost use lib.Dec.{ltb};
 ghost use Rattle.tags.specs.Tags.{laterOf, finishOf};
 use units::TAG_LIMIT;
 use units::Tag;
@@ -30,11 +31,18 @@ pub enum Finish {
     Beyond,
 }
 
+// Whether tag a comes before tag b.
+pub fn earlier(a: Tag, b: Tag) -> bool
+    ensures { λ r. ⌜ r ≡ ltb (a .0) (b .0) ⌝ }
+{
+    a.0 < b.0
+}
+
 // The later of two tags.
 pub fn later(a: Tag, b: Tag) -> Tag
     ensures { λ r. ⌜ r ≡ laterOf a b ⌝ }
 {
-    if a.0 < b.0 {
+    if earlier(a, b) {
         return b;
     }
     a
