@@ -11,7 +11,7 @@ use Rattle.lines.specs.Reading.{readOn}
 use Rattle.lines.proofs.Decimal.{decimal-digit}
 use Rattle.session.specs.Whole.{linesOf, answersOf}
 use Rattle.cases.specs.Table.{replies}
-use Rattle.cases.specs.Worked.{bytesOf}
+use Rattle.units.specs.Texts.{bytesOf}
 use Rattle.cases.specs.BadNumbers.{BadNumbers}
 use Rattle.cases.proofs.Worked.{teen}
 

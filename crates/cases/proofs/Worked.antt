@@ -15,7 +15,8 @@ use Rattle.lines.specs.Grammar.{decimalOf}
 use Rattle.lines.specs.Reading.{readOn}
 use Rattle.lines.proofs.Decimal.{decimal-snoc, decimal-digit}
 use Rattle.session.specs.Whole.{linesOf, answersOf}
-use Rattle.cases.specs.Worked.{bytesOf, Worked}
+use Rattle.units.specs.Texts.{bytesOf}
+use Rattle.cases.specs.Worked.{Worked}
 
 -- one digit more at the end of a number's text
 longer : (a d : ℕ) {digits : List ℕ} → 1 ≤ a → d < 10 → decimalOf a ≡ digits → decimalOf (a * 10 + d) ≡ digits ++ (48 + d) ∷ []

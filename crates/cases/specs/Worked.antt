@@ -1,16 +1,7 @@
 -- The tender's one whole session, in its own words.
 use mathlib.Core.Path.{_≡_}
-use mathlib.Core.List.{List}
-use mathlib.Core.List as list
-use Prim.Native.Nat.{ℕ}
-use Prim.Native.Char.{code}
-use Prim.Native.String.{String, [], _∷_}
+use Rattle.units.specs.Texts.{bytesOf}
 use Rattle.session.specs.Whole.{sessionOf}
-
--- the bytes of a text
-unfoldable pub bytesOf : String → List ℕ
-bytesOf [] = list.[]
-bytesOf (c ∷ s) = list._∷_ (code c) (bytesOf s)
 
 -- The session gives its output, byte for byte.
 abbrev pub Worked : Type 0

@@ -1,3 +1,4 @@
 pub mod Run
 pub mod Sessions
+pub mod Texts
 pub mod Promises

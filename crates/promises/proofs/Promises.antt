@@ -19,7 +19,8 @@ use Rattle.promises_fair.proofs.Account.{offer-told as packet-told}
 use Rattle.promises.specs.Run.{fresh, run}
 use Rattle.promises.specs.Promises.{Promises}
 use Rattle.promises.proofs.Run.{run-on, good-run, fair-run, time-run, refused-as-told, urgent-only, fair-only}
-use Rattle.promises.proofs.Sessions.{calls-answered, others-answered, refusals-written}
+use Rattle.promises.proofs.Sessions.{calls-answered, others-answered}
+use Rattle.promises.proofs.Texts.{commands-spelled, replies-spelled}
 
 pub promises : Promises
 unfolding callOf
@@ -62,8 +63,9 @@ promises =
       R1 = λ earlier later e l. (omega arith, omega arith, omega arith);
       P1 = reads-one-text;
       P1-others = others-answered;
+      P1-commands = commands-spelled;
       P2 = calls-answered;
-      P2-refusals = refusals-written;
+      P2-lines = replies-spelled;
       P3 = fed-in-pieces;
       P3-takes = takes-on;
     }

@@ -14,7 +14,7 @@ use Rattle.lines.specs.Grammar.{textOf}
 use Rattle.lines.specs.Reading.{readCall}
 use Rattle.lines.proofs.Texts.{reads-one-text, texts-fit}
 use Rattle.session.specs.Whole.{heardAs, answerOf, answersOf}
-use Rattle.promises.specs.Sessions.{CallsAnswered, OthersAnswered, RefusalsWritten}
+use Rattle.promises.specs.Sessions.{CallsAnswered, OthersAnswered}
 
 answered : (s : Station) (line : List ℕ) (lines : List (List ℕ)) (o : Option Call) → heardAs line ≡ o
     → answersOf s (line ∷ lines) ≡ answerOf s o .text ++ answersOf (answerOf s o .station) lines
@@ -32,6 +32,3 @@ others-answered s line lines other = answered s line lines none (go (leb (length
     go : (b : Bool) → readCall line ≡ none → cond b (readCall line) none ≡ none
     go true e = e
     go false e = refl
-
-pub refusals-written : RefusalsWritten
-refusals-written = record { urgent = λ refusal. refl; fair = λ refusal. refl; other = refl }

@@ -24,7 +24,8 @@ use Rattle.station.specs.InKind.{AnsweredInKind}
 use Rattle.station.specs.Laws.{RefusedFirst, NumberTold, GroundsInOrder, RefusedSame, isUrgent}
 use Rattle.lines.specs.Reading.{ReadsOneText}
 use Rattle.session.specs.Laws.{FedInPieces, TakesOn}
-use Rattle.promises.specs.Sessions.{CallsAnswered, OthersAnswered, RefusalsWritten}
+use Rattle.promises.specs.Sessions.{CallsAnswered, OthersAnswered}
+use Rattle.promises.specs.Texts.{CommandsSpelled, RepliesSpelled}
 use Rattle.promises.specs.Run.{Run, run, runFrom, replyTo, onUrgent, onFair, replies, repliesTo, only}
 
 -- calls of the fair lane
@@ -135,10 +136,12 @@ pub record Promises : Type 0 where
   -- answered `no 11`, once, and leaves the station as it was
   pub P1 : ReadsOneText
   pub P1-others : OthersAnswered
+  -- and each call's text is spelled as the rules spell it
+  pub P1-commands : CommandsSpelled
   -- P2: a call's text is answered by exactly the line of its reply
   pub P2 : CallsAnswered
-  -- and a refusal is written by its number
-  pub P2-refusals : RefusalsWritten
+  -- and each reply's line is spelled as the rules spell it, a refusal's by its number
+  pub P2-lines : RepliesSpelled
   -- P3: a whole session is one definition, bytes to bytes, and fed in any pieces the program's steps write it
   pub P3 : FedInPieces
   -- and with room for a line, no piece is left waiting

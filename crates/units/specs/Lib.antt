@@ -3,3 +3,4 @@ pub mod Refusals
 pub mod Charges
 pub mod Answers
 pub mod Radio
+pub mod Texts
