@@ -2,3 +2,4 @@ pub mod Table
 pub mod Closing
 pub mod Worked
 pub mod BadNumbers
+pub mod Fields

@@ -19,7 +19,7 @@ use Rattle.units.specs.Texts.{bytesOf}
 use Rattle.cases.specs.Worked.{Worked}
 
 -- one digit more at the end of a number's text
-longer : (a d : ℕ) {digits : List ℕ} → 1 ≤ a → d < 10 → decimalOf a ≡ digits → decimalOf (a * 10 + d) ≡ digits ++ (48 + d) ∷ []
+pub longer : (a d : ℕ) {digits : List ℕ} → 1 ≤ a → d < 10 → decimalOf a ≡ digits → decimalOf (a * 10 + d) ≡ digits ++ (48 + d) ∷ []
 longer a d h l e = decimal-snoc a d h l ∙ ap (λ (t : List ℕ). t ++ (48 + d) ∷ []) e
 
 -- a number from 10 to 19 in digits
