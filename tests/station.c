@@ -5,21 +5,20 @@
 
 #include "tuhkeliar.h"
 
-static tuhkeliar_called called;
+static tuhkeliar_station station;
 
-static void play(char command, uint64_t flow, uint64_t figure) {
-    tuhkeliar_station station = called.station;
+static tuhkeliar_answer play(char command, uint64_t flow, uint64_t figure) {
     switch (command) {
-    case 'U': called = tuhkeliar_open_urgent(station, flow, figure); break;
-    case 'F': called = tuhkeliar_open_fair(station, flow, figure); break;
-    case 'C': called = tuhkeliar_close_urgent(station, flow); break;
-    case 'c': called = tuhkeliar_close_fair(station, flow); break;
-    case 'u': called = tuhkeliar_offer_cell(station, flow); break;
-    case 'f': called = tuhkeliar_offer_packet(station, flow, figure); break;
-    case 't': called = tuhkeliar_turn(station, true); break;
-    case 'x': called = tuhkeliar_turn(station, false); break;
-    case 'b': called = tuhkeliar_begin(station); break;
-    case 'e': called = tuhkeliar_end(station); break;
+    case 'U': return tuhkeliar_open_urgent_at(&station, flow, figure);
+    case 'F': return tuhkeliar_open_fair_at(&station, flow, figure);
+    case 'C': return tuhkeliar_close_urgent_at(&station, flow);
+    case 'c': return tuhkeliar_close_fair_at(&station, flow);
+    case 'u': return tuhkeliar_offer_cell_at(&station, flow);
+    case 'f': return tuhkeliar_offer_packet_at(&station, flow, figure);
+    case 't': return tuhkeliar_turn_at(&station, true);
+    case 'x': return tuhkeliar_turn_at(&station, false);
+    case 'b': return tuhkeliar_begin_at(&station);
+    default: return tuhkeliar_end_at(&station);
     }
 }
 
@@ -85,14 +84,14 @@ int main(void) {
     char line[64];
     if (!laid_out()) return 1;
     if (tuhkeliar_slots_passed(65530, 4) != 10 || tuhkeliar_slots_passed(5, 4) != 65535) return 1;
-    called.station = tuhkeliar_fresh();
+    tuhkeliar_fresh_at(&station);
     while (fgets(line, sizeof line, stdin)) {
         char command = 0;
         uint64_t flow = 0, figure = 0;
         sscanf(line, "%c %" SCNu64 " %" SCNu64, &command, &flow, &figure);
-        play(command, flow, figure);
-        if (called.answer.kind != TUHKELIAR_REFUSED && !in_kind(command, called.answer.kind)) return 1;
-        tell(called.answer);
+        tuhkeliar_answer answer = play(command, flow, figure);
+        if (answer.kind != TUHKELIAR_REFUSED && !in_kind(command, answer.kind)) return 1;
+        tell(answer);
     }
     return 0;
 }

@@ -1,6 +1,0 @@
--- The plain form of a refusal is computed.
-use mathlib.Core.Path.{refl}
-use Rattle.clib.specs.Laws.{RefusalsPlain}
-
-pub refusals-plain : RefusalsPlain
-refusals-plain = record { urgent = λ refusal. refl; fair = λ refusal. refl }
