@@ -31,14 +31,14 @@ part-feed-end c = search needs
 feed-requires : tie.Need-feed-requires Inv-loop μ-loop
 feed-requires c κs = search needs
 
-slice-reshare-prefix-write-all : tie.Need-slice-reshare-prefix-write-all Inv-loop μ-loop
-slice-reshare-prefix-write-all c = search needs
+slice-reshare-prefix-write-replies : tie.Need-slice-reshare-prefix-write-replies Inv-loop μ-loop
+slice-reshare-prefix-write-replies c = search needs
 
-slice-aggregate-write-all : tie.Need-slice-aggregate-write-all Inv-loop μ-loop
-slice-aggregate-write-all c = let f = c .before .before .before .before .feed in sym (length-take-le (f .result .written) (f .last .1 .1 .0) (f .ensures .fits))
+slice-aggregate-write-replies : tie.Need-slice-aggregate-write-replies Inv-loop μ-loop
+slice-aggregate-write-replies c = let f = c .before .before .before .before .feed in sym (length-take-le (f .result .written) (f .last .1 .1 .0) (f .ensures .fits))
 
-write-all-requires : tie.Need-write-all-requires Inv-loop μ-loop
-write-all-requires c κs = search needs
+write-replies-requires : tie.Need-write-replies-requires Inv-loop μ-loop
+write-replies-requires c κs = search needs
 
 same-length : tie.Need-same-length Inv-loop μ-loop
 same-length c = search needs
@@ -77,9 +77,9 @@ answer-spec =
     part-feed-start
     part-feed-end
     feed-requires
-    slice-reshare-prefix-write-all
-    slice-aggregate-write-all
-    write-all-requires
+    slice-reshare-prefix-write-replies
+    slice-aggregate-write-replies
+    write-replies-requires
     same-length
     returns
     add-from

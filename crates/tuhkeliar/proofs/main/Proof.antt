@@ -29,11 +29,11 @@ finish-requires c κs = search needs
 array-share-prefix-last : tie.Need-array-share-prefix-last
 array-share-prefix-last c = search needs
 
-slice-aggregate-write-all : tie.Need-slice-aggregate-write-all
-slice-aggregate-write-all c = let f = c .before .finish in sym (length-take-le (f .result) (f .last .1 .0) (f .ensures .fits))
+slice-aggregate-write-replies : tie.Need-slice-aggregate-write-replies
+slice-aggregate-write-replies c = let f = c .before .finish in sym (length-take-le (f .result) (f .last .1 .0) (f .ensures .fits))
 
-write-all-requires : tie.Need-write-all-requires
-write-all-requires c κs = search needs
+write-replies-requires : tie.Need-write-replies-requires
+write-replies-requires c κs = search needs
 
 returns-2 : tie.Need-returns-2
 returns-2 c = search needs
@@ -50,6 +50,6 @@ main-spec =
     returns
     finish-requires
     array-share-prefix-last
-    slice-aggregate-write-all
-    write-all-requires
+    slice-aggregate-write-replies
+    write-replies-requires
     returns-2)

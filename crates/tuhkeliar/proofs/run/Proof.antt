@@ -20,6 +20,18 @@ loop-holds c = search needs
 read-requires : tie.Need-read-requires Inv-loop μ-loop
 read-requires c κs = search needs
 
+tell-unread-requires : tie.Need-tell-unread-requires Inv-loop μ-loop
+tell-unread-requires c κs = search needs
+
+same-length : tie.Need-same-length Inv-loop μ-loop
+same-length c = search needs
+
+same-length-2 : tie.Need-same-length-2 Inv-loop μ-loop
+same-length-2 c = search needs
+
+returns : tie.Need-returns Inv-loop μ-loop
+returns c = search needs
+
 count-requires : tie.Need-count-requires Inv-loop μ-loop
 count-requires c κs = search needs
 
@@ -32,14 +44,14 @@ slice-aggregate-answer c = search needs
 answer-requires : tie.Need-answer-requires Inv-loop μ-loop
 answer-requires c κs = search needs
 
-same-length : tie.Need-same-length Inv-loop μ-loop
-same-length c = search needs
+same-length-3 : tie.Need-same-length-3 Inv-loop μ-loop
+same-length-3 c = search needs
 
-same-length-2 : tie.Need-same-length-2 Inv-loop μ-loop
-same-length-2 c = search needs
+same-length-4 : tie.Need-same-length-4 Inv-loop μ-loop
+same-length-4 c = search needs
 
-returns : tie.Need-returns Inv-loop μ-loop
-returns c = search needs
+returns-2 : tie.Need-returns-2 Inv-loop μ-loop
+returns-2 c = search needs
 
 sub-reads : tie.Need-sub-reads Inv-loop μ-loop
 sub-reads c = search needs
@@ -50,15 +62,6 @@ loop-less c = search needs
 loop-again : tie.Need-loop-again Inv-loop μ-loop
 loop-again c = search needs
 
-same-length-3 : tie.Need-same-length-3 Inv-loop μ-loop
-same-length-3 c = search needs
-
-same-length-4 : tie.Need-same-length-4 Inv-loop μ-loop
-same-length-4 c = search needs
-
-returns-2 : tie.Need-returns-2 Inv-loop μ-loop
-returns-2 c = search needs
-
 same-length-5 : tie.Need-same-length-5 Inv-loop μ-loop
 same-length-5 c = search needs
 
@@ -67,6 +70,15 @@ same-length-6 c = search needs
 
 returns-3 : tie.Need-returns-3 Inv-loop μ-loop
 returns-3 c = search needs
+
+same-length-7 : tie.Need-same-length-7 Inv-loop μ-loop
+same-length-7 c = search needs
+
+same-length-8 : tie.Need-same-length-8 Inv-loop μ-loop
+same-length-8 c = search needs
+
+returns-4 : tie.Need-returns-4 Inv-loop μ-loop
+returns-4 c = search needs
 
 pub run-spec : {M : Type 1} → statement M
 run-spec =
@@ -77,19 +89,23 @@ run-spec =
     fresh-requires
     loop-holds
     read-requires
+    tell-unread-requires
+    same-length
+    same-length-2
+    returns
     count-requires
     slice-reshare-prefix-answer
     slice-aggregate-answer
     answer-requires
-    same-length
-    same-length-2
-    returns
-    sub-reads
-    loop-less
-    loop-again
     same-length-3
     same-length-4
     returns-2
+    sub-reads
+    loop-less
+    loop-again
     same-length-5
     same-length-6
-    returns-3)
+    returns-3
+    same-length-7
+    same-length-8
+    returns-4)
