@@ -1,0 +1,87 @@
+"""Wrong stations whose definition, code and lemmas agree: each one's own crate proves it, and the promises refuse it."""
+import shutil
+from concurrent.futures import ThreadPoolExecutor
+
+from support import ROOT, fail, folder, run
+
+# What is wrong, the crate that is changed and still proved, the promises that refuse it, and the changes: file, old text, new text.
+STATIONS = [
+    (
+        'closing starts a flow\'s numbers again', 'urgent', 'promises_urgent', [
+            ('specs/Calls.antt', 'opened = false; deadline = flowAt u flow .deadline; next = flowAt u flow .next', 'opened = false; deadline = flowAt u flow .deadline; next = 0'),
+            ('src/closing.rt', 'next: was.next,', 'next: 0,'),
+        ],
+    ),
+    (
+        'a turn tells that none was missed', 'urgent', 'promises_urgent', [
+            ('specs/Calls.antt', 'answer = answer (count (lastIs (u .now)) cells);', 'answer = answer 0;'),
+            ('src/turning.rt', 'answering(best, sent, missed)', 'answering(best, sent, 0)'),
+            ('proofs/Calls.antt', 'cond (isHeld c) (Sent (place / 16) (c .number) missed) (Idle missed)', 'cond (isHeld c) (Sent (place / 16) (c .number) 0) (Idle 0)'),
+            ('proofs/Calls.antt', 'told, t, q .0, q .1)', 'told, t, q .0)'),
+        ],
+    ),
+    (
+        'a drain leaves virtual time at the last start', 'fair', 'promises_fair', [
+            ('specs/Calls.antt', 'time = cond (eqb (waiting u) 0) (largestEnded u) (u .time);', 'time = cond (eqb (waiting u) 0) (u .time) (u .time);'),
+            ('src/serving.rt', 'time = largest;', 'time = self.time;'),
+            ('proofs/Calls.antt', 'record { time = largest; largest = largest;', 'record { time = u .time; largest = largest;'),
+            ('proofs/Fair/end/Proof.antt', 'rw (w .1) (end-drained', 'rw (w .2) (end-drained'),
+        ],
+    ),
+    (
+        'packets are served by their finish tags', 'fair', 'promises_fair', [
+            ('specs/Lane.antt', 'rank = p .start .0;', 'rank = p .finish .0;'),
+            ('src/serving.rt', 'tags::earlier(p.start, b.start)', 'tags::earlier(p.finish, b.finish)'),
+            ('src/serving.rt', 'tags::earlier(b.start, p.start)', 'tags::earlier(b.finish, p.finish)'),
+            ('proofs/serving/goes_before/Proof.antt', '.start .0', '.finish .0'),
+        ],
+    ),
+]
+
+
+def needed(name, rests_on):
+    """The crates of the tree that a crate rests on, and itself."""
+    return set().union({name}, *(needed(other, rests_on) for other in rests_on[name] if other in rests_on))
+
+
+def built(station):
+    """A tree with the wrong station, and what is proved already of the crates that it leaves as they are."""
+    what, changed, promises, changes = station
+    lines = [line for line in (ROOT / 'crates.txt').read_text().split('\n') if line]
+    rests_on = {name: rest.split() for name, rest in (line.split(':') for line in lines)}
+    names, root = needed(promises, rests_on), folder()
+    for name in names:
+        shutil.copytree(ROOT / 'crates' / name, root / 'crates' / name)
+    (root / 'crates.txt').write_text(''.join(line + '\n' for line in lines if line.split(':')[0] in names))
+    for part in ('rlib', 'stamp'):
+        shutil.copytree(ROOT / 'target' / part, root / 'target' / part)
+    for file, old, new in changes:
+        path = root / 'crates' / changed / file
+        text = path.read_text()
+        if old not in text:
+            fail('%s: %s has no `%s` any more' % (what, file, old))
+        path.write_text(text.replace(old, new))
+    return root
+
+
+def refused(station):
+    """Whether the station's own crate proves it and the promises refuse it; what was said, where not."""
+    what, changed, promises, _ = station
+    root = built(station)
+    status, wrote, said = run(['rt', 'check', changed], cwd=root)
+    if status != 0:
+        return '%s: %s does not prove it:\n%s' % (what, changed, (wrote + said).decode())
+    status, wrote, said = run(['rt', 'check', promises], cwd=root)
+    told = (wrote + said).decode()
+    if status != 1 or 'rt: %s NOT PROVED (exit 1' % promises not in told:
+        return '%s: %s does not refuse it:\n%s' % (what, promises, told)
+    return None
+
+
+def wrong_stations():
+    """stations whose definition and code are wrong together are proved by their own crates and refused by the promises"""
+    with ThreadPoolExecutor(max_workers=2) as pool:
+        for answer in pool.map(refused, STATIONS):
+            if answer is not None:
+                fail(answer)
+    return '%d wrong stations, each proved by its own crate, are refused by the promises' % len(STATIONS)
