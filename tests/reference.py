@@ -2,7 +2,8 @@
 
     reference.py < commands > replies
 
-All is written for reading: what waits is a plain list, tags are exact fractions of a byte at weight 1.
+All is written for reading: what waits is a plain list, tags are exact fractions of a byte at weight 1. A lane is fresh, or is given a
+state that is written out.
 """
 
 import sys
@@ -52,6 +53,11 @@ def units(tag):
     return whole.numerator
 
 
+# A tag that is given in whole units.
+def tag(whole):
+    return Fraction(whole, UNITS_PER_BYTE)
+
+
 # Whether all places of one flow are taken.
 def full(waiting, flow):
     return sum(1 for one in waiting if one.flow == flow) >= PLACES
@@ -59,11 +65,12 @@ def full(waiting, flow):
 
 # The lane whose cells go out by their last slot or are missed.
 class UrgentLane:
-    def __init__(self):
-        self.now = 0
-        self.deadline = {}
-        self.accepted = {}
-        self.waiting = []
+    # The slot to come; by flow, the deadlines of the open ones and the cells accepted so far; the cells that wait.
+    def __init__(self, now=0, deadline=(), accepted=(), waiting=()):
+        self.now = now
+        self.deadline = dict(deadline)
+        self.accepted = dict(accepted)
+        self.waiting = list(waiting)
 
     # The flow may send until it is closed, each cell within `deadline` slots.
     def open(self, flow, deadline):
@@ -106,14 +113,16 @@ class UrgentLane:
 
 # The lane that shares the link by weight, in the order of start tags.
 class FairLane:
-    def __init__(self):
-        self.virtual_time = Fraction(0)
-        self.weight = {}
-        self.last_finish = {}
-        self.accepted = {}
-        self.waiting = []
-        self.in_service = None
-        self.largest_ended = Fraction(0)
+    # The virtual time; by flow, the weights of the open ones, the packets accepted so far and the last finish tags; the packets that wait,
+    # the one in service, and the largest finish tag of those that ended.
+    def __init__(self, virtual_time=Fraction(0), weight=(), accepted=(), last_finish=(), waiting=(), in_service=None, largest_ended=Fraction(0)):
+        self.virtual_time = virtual_time
+        self.weight = dict(weight)
+        self.accepted = dict(accepted)
+        self.last_finish = dict(last_finish)
+        self.waiting = list(waiting)
+        self.in_service = in_service
+        self.largest_ended = largest_ended
 
     # The flow may send until it is closed, with this share of the link.
     def open(self, flow, weight):

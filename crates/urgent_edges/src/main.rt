@@ -162,6 +162,23 @@ fn bad_numbers() {
     close(offer(lane, 1), 1);
 }
 
+fn used_up() {
+    case(b"the longest deadline at the end of the slots");
+    let mut lane = Urgent::fresh();
+    let near = Slot(3999995904);
+    lane.now = near;
+    lane = open(open(lane, 0, 4096), 1, 4095);
+    offer(offer(turn(offer(lane, 0), true), 0), 1);
+    case(b"full before used up");
+    let mut full = Urgent::fresh();
+    let early = Slot(3999999990);
+    full.now = early;
+    full = offers(open(full, 0, 10), 0, 17);
+    let late = Slot(3999999999);
+    full.now = late;
+    turn(offer(turn(offer(full, 0), true), 0), true);
+}
+
 fn unreachable_states() {
     case(b"the last number");
     offer(offer(written(5, 3, 18446744073709551615, 5, 6), 0), 0);
@@ -208,5 +225,6 @@ fn main() {
     worked();
     closings();
     bad_numbers();
+    used_up();
     unreachable_states();
 }
