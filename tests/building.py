@@ -80,7 +80,7 @@ def ended_early():
     room = folder()
     home = small(room / 'small')
     ended = start([home / 'tuhkeliar'], stdin=subprocess.DEVNULL, stdout=subprocess.PIPE, stderr=subprocess.PIPE)
-    within(20, 'the build does not set out', (home / 'target' / 'log' / 'low.say').exists)
+    within(60, 'the build does not set out', (home / 'target' / 'log' / 'low.say').exists)
     os.kill(ended.pid, signal.SIGTERM)
     if ended.wait() != -signal.SIGTERM:
         fail('a build ended early has status %d' % ended.returncode)
@@ -88,7 +88,7 @@ def ended_early():
     for number in (signal.SIGTERM, signal.SIGINT):
         temporary = folder()
         ended = start([ROOT / 'tests' / 'run', 'types'], stdin=subprocess.DEVNULL, stdout=subprocess.PIPE, stderr=subprocess.PIPE, env={**os.environ, 'TMPDIR': str(temporary)})
-        within(20, 'the test does not set out', lambda: list(temporary.glob('*/*/target/log/units.say')))
+        within(60, 'the test does not set out', lambda: list(temporary.glob('*/*/target/log/units.say')))
         os.kill(ended.pid, number)
         said = ended.communicate()[1]
         if ended.returncode != 128 + number or said != b'tests/run: types: ended early\n':
@@ -109,7 +109,7 @@ def own_words():
         fail('an unknown name: status %d, wrote %r, said %r' % (status, wrote, said))
     bare = entry.without_kit()
     (pathlib.Path(bare['PATH']) / 'python3').symlink_to(shutil.which('python3'))
-    for name, last in (('types', b'tests/run: types: rt is missing\n'), ('worked', b'tests/run: build: what the tests run is not built\n')):
+    for name, last in (('types', b'tests/run: types: rt is missing\n'), ('worked', b'tests/run: build: not built: tuhkeliar\n')):
         status, wrote, said = run([*tests, name], env=bare)
         if status == 0 or wrote != b'' or b'Traceback' in said or not said.endswith(last):
             fail('%s without the kit: status %d, wrote %r, said %r' % (name, status, wrote, said))

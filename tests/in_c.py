@@ -9,7 +9,7 @@ import named
 import reference
 import sessions
 from playing import LINES
-from support import ROOT, compare, fail, folder, played, run
+from support import ROOT, build, compare, fail, folder, played, run
 
 HEADER = ROOT / 'include' / 'tuhkeliar.h'
 EXAMPLE = b"""sent cell 0 of flow 1, missed 1
@@ -30,6 +30,7 @@ def compiler():
 
 def built(source, name):
     """A program in C over the archive, linked by README's line."""
+    build(['tuhkeliar_c'])
     program = folder() / name
     warned = ['-O2', '-std=c11', '-Wall', '-Wextra', '-Werror', '-I', ROOT / 'include']
     linked = [compiler(), *warned, source, '-L', ROOT / 'target' / 'staticlib', '-ltuhkeliar_c', '-o', program]

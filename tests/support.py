@@ -92,6 +92,12 @@ def run(command, given=b'', **how):
     return process.returncode, wrote, said
 
 
+def build(names):
+    """Proves and builds crates and what they rest on, where that is not done."""
+    if names and run([ROOT / 'tools' / 'build', *names], stderr=None)[0] != 0:
+        fail('not built: %s' % ' '.join(names))
+
+
 def played(given, program):
     """What a built program writes on its input."""
     status, wrote, said = run([ROOT / 'tools' / 'start', program], given)
