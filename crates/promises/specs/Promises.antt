@@ -10,10 +10,10 @@ use Rattle.units.specs.declared.Refusal.the-variants.{NoSuchFlow, NotOpen, Alre
 use Rattle.units.specs.Charges.{ProductRule}
 use Rattle.units.specs.Radio.{slotsPassed}
 use Rattle.admission.specs.Published.{Published}
-use Rattle.promises_urgent.specs.Promised.{OnTime, acceptedOf, Accounted, Earliest, lastIn, Numbered, FewNumbers, OwnPlan, NoneBetter, Explained, TermsStand}
+use Rattle.promises_urgent.specs.Promised.{OnTime, acceptedOf, Accounted, Earliest, lastIn, CellsNumbered, Windowed, FewNumbers, OwnPlan, NoneBetter, Explained, TermsStand}
 use Rattle.promises_urgent.specs.Refused.{openingTold as urgentOpening, closingTold as urgentClosing, offeringTold as cellOffering, turnTold}
 use Rattle.promises_fair.specs.Packets.{virtualTime}
-use Rattle.promises_fair.specs.Promised.{acceptedOf as packetsOf, startIn, finishTag, First, ServedInOrder, LastBegun, EndsAndNumbers}
+use Rattle.promises_fair.specs.Promised.{acceptedOf as packetsOf, startIn, finishTag, First, ServedInOrder, LastBegun, NumbersGoOn}
 use Rattle.promises_fair.specs.Promised.{TermsStand as FairTermsStand}
 use Rattle.promises_fair.specs.Refused.{openingTold as fairOpening, closingTold as fairClosing, offeringTold as packetOffering, beginTold, endTold}
 use Rattle.station.specs.declared.Call.{Call}
@@ -91,14 +91,16 @@ pub record Promises : Type 0 where
   pub U0 : (calls : List Call) → OnTime (run calls .station .urgent) (run calls .cells)
   -- U1: accepted = sent + missed + waiting, and the places held are the waiting cells
   pub U1 : (calls : List Call) → Accounted (run calls .station .urgent) (run calls .cells)
-  -- U2: an open turn sends the waiting cell with the earliest last slot; that no other cell leaves by sending is U1 after the turn
+  -- U2: an open turn sends the waiting cell with the earliest last slot, ties to the lowest flow and then the lowest number; that no other
+  -- cell leaves by sending is U1 after the turn
   pub U2 : (calls : List Call) → onUrgent (Earliest (run calls .cells)) (replyTo calls OpenTurn)
   -- U3: an accepted cell is told how many of its flow were accepted before it, and the last slot of its window; no number wraps
   pub U3 :
       (calls : List Call) (flow : ℕ) → refusalIn (replyTo calls (OfferCell flow)) ≡ none
       → told (replyTo calls (OfferCell flow)) .values ≡ acceptedOf (run calls .cells) flow ∷ lastIn (run calls .cells) flow ∷ []
-  pub U3-numbers : (calls : List Call) → Numbered (run calls .cells .accepted)
-  pub U3-few : (calls : List Call) → FewNumbers (run calls .station .urgent) (run calls .cells)
+  pub U3-numbers : (calls : List Call) → CellsNumbered (run calls .cells .accepted)
+  pub U3-windows : (calls : List Call) → Windowed (run calls .cells .accepted)
+  pub U3-few : (calls : List Call) → FewNumbers (run calls .station .urgent)
   -- U4: the lane's own sendings are a plan: each cell once, in an open slot, inside its window
   pub U4 : (calls : List Call) → OwnPlan (run calls .cells)
   -- U5: demand 3: no plan, even one drawn up in hindsight, could have sent more
@@ -113,12 +115,13 @@ pub record Promises : Type 0 where
       (calls : List Call) (flow length : ℕ) → refusalIn (replyTo calls (OfferPacket flow length)) ≡ none
       → told (replyTo calls (OfferPacket flow length)) .values
       ≡ packetsOf (run calls .packets) flow ∷ startIn (run calls .packets) flow ∷ finishTag (run calls .packets) flow length ∷ []
-  -- F2: begin takes the waiting packet with the smallest start tag, within a flow the lowest number; the places held are the waiting packets
+  -- F2: begin takes the waiting packet with the smallest start tag, ties to the lowest flow; a flow's packets are begun in the order of their
+  -- numbers; the places held are the waiting packets
   pub F2 : (calls : List Call) → onFair (First (run calls .packets)) (replyTo calls Begin)
   pub F2-order : (calls : List Call) → ServedInOrder (run calls .station .fair) (run calls .packets)
   -- F3: end answers the packet last begun; packets are numbered from 0 in each flow, and no number wraps
   pub F3 : (calls : List Call) → onFair (LastBegun (run calls .packets .moments)) (replyTo calls End)
-  pub F3-numbers : (calls : List Call) → EndsAndNumbers (run calls .station .fair) (run calls .packets)
+  pub F3-numbers : (calls : List Call) → NumbersGoOn (run calls .station .fair) (run calls .packets)
   -- F4: virtual time never falls, and every charge times its weight is 720,720
   pub F4 : (xs ys : List Call) → virtualTime (run xs .packets .moments) ≤ virtualTime (run (xs ++ ys) .packets .moments)
   pub F4-charges : ProductRule

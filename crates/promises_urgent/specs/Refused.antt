@@ -15,6 +15,7 @@ use Rattle.promises_urgent.specs.Cells.{Cells, deadlineIn}
 use Rattle.promises_urgent.specs.Promised.{waitingIn}
 
 -- open: opened and not closed since; waiting: accepted, not sent, last slot not gone by; the slot: the turns so far
+-- that were not refused
 abbrev pub openingTold : Cells → ℕ → ℕ → List Ground
 openingTold h flow deadline =
     (NoSuchFlow, noSuchFlow flow) ∷ (AlreadyOpen, openIn (h .marks) flow) ∷ (BadDeadline, badDeadline deadline) ∷ []
