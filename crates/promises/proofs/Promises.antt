@@ -18,7 +18,7 @@ use Rattle.promises_fair.proofs.Account.{begins-first, served-in-order, ends-la
 use Rattle.promises_fair.proofs.Account.{offer-told as packet-told}
 use Rattle.promises.specs.Run.{fresh, run}
 use Rattle.promises.specs.Promises.{Promises}
-use Rattle.promises.proofs.Run.{run-on, good-run, fair-run, time-run, refused-as-told, urgent-only, fair-only}
+use Rattle.promises.proofs.Run.{run-on, good-run, fair-run, time-run, refused-as-noted, urgent-only, fair-only}
 use Rattle.promises.proofs.Sessions.{calls-answered, others-answered}
 use Rattle.promises.proofs.Texts.{commands-spelled, replies-spelled}
 
@@ -36,7 +36,7 @@ promises =
       S2-never4 = never-4;
       S3-urgent = urgent-only;
       S3-fair = fair-only;
-      S4 = refused-as-told;
+      S4 = refused-as-noted;
       U0 = λ calls. good-run calls .kept .time;
       U1 = λ calls.
           let r = run calls in

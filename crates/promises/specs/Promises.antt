@@ -11,11 +11,11 @@ use Rattle.units.specs.Charges.{ProductRule}
 use Rattle.units.specs.Radio.{slotsPassed}
 use Rattle.admission.specs.Published.{Published}
 use Rattle.promises_urgent.specs.Promised.{OnTime, acceptedOf, Accounted, Earliest, lastIn, CellsNumbered, Windowed, FewNumbers, OwnPlan, NoneBetter, Explained, TermsStand}
-use Rattle.promises_urgent.specs.Refused.{openingTold as urgentOpening, closingTold as urgentClosing, offeringTold as cellOffering, turnTold}
+use Rattle.promises_urgent.specs.Refused.{openingNoted as urgentOpening, closingNoted as urgentClosing, offeringNoted as cellOffering, turnNoted}
 use Rattle.promises_fair.specs.Packets.{virtualTime}
 use Rattle.promises_fair.specs.Promised.{acceptedOf as packetsOf, startIn, finishTag, First, ServedInOrder, LastBegun, NumbersGoOn}
 use Rattle.promises_fair.specs.Promised.{TermsStand as FairTermsStand}
-use Rattle.promises_fair.specs.Refused.{openingTold as fairOpening, closingTold as fairClosing, offeringTold as packetOffering, beginTold, endTold}
+use Rattle.promises_fair.specs.Refused.{openingNoted as fairOpening, closingNoted as fairClosing, offeringNoted as packetOffering, beginNoted, endNoted}
 use Rattle.station.specs.declared.Call.{Call}
 use Rattle.station.specs.declared.Call.the-variants.{OpenUrgent, OpenFair, CloseUrgent, CloseFair, OfferCell, OfferPacket, OpenTurn, LostTurn, Begin, End}
 use Rattle.station.specs.Calls.{freshStation}
@@ -56,17 +56,17 @@ byNumber =
 
 -- what a call is refused for, read off the calls and replies so far: open is opened and not closed since; waiting is accepted, not sent
 -- and not gone by, or accepted and not begun; in service is a begin answered and no end since; the slot is U0's and the tags are F1's
-abbrev pub groundsTold : Run → Call → List Ground
-groundsTold r (OpenUrgent flow deadline) = urgentOpening (r .cells) flow deadline
-groundsTold r (OpenFair flow weight) = fairOpening (r .packets) flow weight
-groundsTold r (CloseUrgent flow) = urgentClosing (r .cells) flow
-groundsTold r (CloseFair flow) = fairClosing (r .packets) flow
-groundsTold r (OfferCell flow) = cellOffering (r .cells) flow
-groundsTold r (OfferPacket flow length) = packetOffering (r .packets) flow length
-groundsTold r OpenTurn = turnTold (r .cells)
-groundsTold r LostTurn = turnTold (r .cells)
-groundsTold r Begin = beginTold (r .packets)
-groundsTold r End = endTold (r .packets)
+abbrev pub groundsNoted : Run → Call → List Ground
+groundsNoted r (OpenUrgent flow deadline) = urgentOpening (r .cells) flow deadline
+groundsNoted r (OpenFair flow weight) = fairOpening (r .packets) flow weight
+groundsNoted r (CloseUrgent flow) = urgentClosing (r .cells) flow
+groundsNoted r (CloseFair flow) = fairClosing (r .packets) flow
+groundsNoted r (OfferCell flow) = cellOffering (r .cells) flow
+groundsNoted r (OfferPacket flow length) = packetOffering (r .packets) flow length
+groundsNoted r OpenTurn = turnNoted (r .cells)
+groundsNoted r LostTurn = turnNoted (r .cells)
+groundsNoted r Begin = beginNoted (r .packets)
+groundsNoted r End = endNoted (r .packets)
 
 pub record Promises : Type 0 where
   -- a list of calls goes on where a shorter one left off
@@ -86,7 +86,7 @@ pub record Promises : Type 0 where
   pub S3-urgent : (calls : List Call) → repliesTo isUrgent freshStation calls ≡ replies freshStation (only isUrgent calls)
   pub S3-fair : (calls : List Call) → repliesTo isFair freshStation calls ≡ replies freshStation (only isFair calls)
   -- S4: a call is refused exactly as the calls and replies so far tell; with S0, one that no condition refuses is accepted
-  pub S4 : (calls : List Call) (call : Call) → refusalIn (replyTo calls call) ≡ firstOf (groundsTold (run calls) call)
+  pub S4 : (calls : List Call) (call : Call) → refusalIn (replyTo calls call) ≡ firstOf (groundsNoted (run calls) call)
   -- U0: time is the calls': the slot number is the number of turns answered and not refused
   pub U0 : (calls : List Call) → OnTime (run calls .station .urgent) (run calls .cells)
   -- U1: accepted = sent + missed + waiting, and the places held are the waiting cells

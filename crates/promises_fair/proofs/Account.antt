@@ -22,7 +22,7 @@ use Rattle.fair.proofs.Refused.{refused-first}
 use Rattle.promises_fair.specs.Packets.{Packet, Moment, began, ceased, Packets, waits, waitingAll, inService, lastStart, largestEnded, virtualTime}
 use Rattle.promises_fair.specs.Notes.{noteOpening, noteClosing, noteOffer, noteService}
 use Rattle.promises_fair.specs.Promised.{acceptedOf, startIn, finishTag, First, ServedInOrder, LastBegun, NumbersGoOn, NeverFalls}
-use Rattle.promises_fair.specs.Refused.{RefusedAsTold}
+use Rattle.promises_fair.specs.Refused.{RefusedAsNoted}
 use Rattle.promises_fair.proofs.Kept.{Serves, Facts, placeFacts, packetFacts, packets-tied, serving-told, waiting-told, waiting-all}
 use Rattle.promises_fair.proofs.Offered.{start-told, finish-told}
 use Rattle.promises_fair.proofs.Chosen.{factsKey, alike, alike-self, alike-told, lead, chosen-late}
@@ -103,8 +103,8 @@ busy-told v ps [] s = s
 busy-told v ps (began f n l x p ∷ ms) s = s .0
 busy-told v ps (ceased f n l p x w ∷ ms) s = s
 
-pub refused-as-told : (u : Fair) (h : Packets) → Good u h → RefusedAsTold u h
-refused-as-told u h g =
+pub refused-as-noted : (u : Fair) (h : Packets) → Good u h → RefusedAsNoted u h
+refused-as-noted u h g =
     let k = g .kept in
     let busy = busy-told (u .service) (h .accepted) (h .moments) (k .service) in
     record {

@@ -28,7 +28,7 @@ use Rattle.urgent.specs.Calls.{refused, offerOf, chosen, turned, turnOf}
 use Rattle.urgent.proofs.Laws.{refused-first}
 use Rattle.promises_urgent.specs.Cells.{Cell, Cells, wasSent, waits, isMissed}
 use Rattle.promises_urgent.specs.Promised.{Question, acceptedOf, lastIn, sentOf, missedOf, Earliest, FewNumbers}
-use Rattle.promises_urgent.specs.Refused.{RefusedAsTold}
+use Rattle.promises_urgent.specs.Refused.{RefusedAsNoted}
 use Rattle.places.proofs.Members.{none-passes, some-map}
 use Rattle.promises_urgent.proofs.Kept.{Kept, Facts, placeFacts, cellFacts, asking, cells-tied, Few, waiting-told, waiting-most}
 
@@ -63,8 +63,8 @@ module _ (u : Urgent) (h : Cells) (k : Kept u h) where
   few-numbers few flow b = omega (arith, few flow b, k .next flow b, k .within, waiting-most u h k flow b)
 
 -- ---- S4
-pub refused-as-told : (u : Urgent) (h : Cells) → Kept u h → RefusedAsTold u h
-refused-as-told u h k =
+pub refused-as-noted : (u : Urgent) (h : Cells) → Kept u h → RefusedAsNoted u h
+refused-as-noted u h k =
     record {
       opening = λ flow deadline. refused-first u .opening flow deadline ∙ after-flow flow _ _ (λ l. rw (k .openFlows flow (omega arith)));
       closing = λ flow.
