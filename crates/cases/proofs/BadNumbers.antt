@@ -10,13 +10,13 @@ use Rattle.station.specs.Calls.{callOf}
 use Rattle.lines.specs.Reading.{readOn}
 use Rattle.lines.proofs.Decimal.{decimal-digit}
 use Rattle.session.specs.Whole.{linesOf, answersOf}
-use Rattle.cases.specs.Table.{replies}
+use Rattle.cases.specs.Table.{toldBy}
 use Rattle.units.specs.Texts.{bytesOf}
 use Rattle.cases.specs.BadNumbers.{BadNumbers}
 use Rattle.cases.proofs.Worked.{teen}
 
 pub bad-numbers : BadNumbers
-unfolding replies bytesOf linesOf answersOf readOn callOf openUrgentOf openOf offerOf firstOf firstBad count firstFree
+unfolding toldBy bytesOf linesOf answersOf readOn callOf openUrgentOf openOf offerOf firstOf firstBad count firstFree
 bad-numbers =
     record {
       deadlines = refl;

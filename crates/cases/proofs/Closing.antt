@@ -13,13 +13,13 @@ use Rattle.station.specs.Calls.{callOf}
 use Rattle.lines.specs.Reading.{readOn}
 use Rattle.lines.proofs.Decimal.{decimal-digit}
 use Rattle.session.specs.Whole.{linesOf, answersOf}
-use Rattle.cases.specs.Table.{replies}
+use Rattle.cases.specs.Table.{toldBy}
 use Rattle.units.specs.Texts.{bytesOf}
 use Rattle.cases.specs.Closing.{Closings}
 use Rattle.cases.proofs.Worked.{teen}
 
 pub closings : Closings
-unfolding replies bytesOf linesOf answersOf readOn callOf openUrgentOf closeUrgentOf offerCellOf turnOf openOf closeOf offerOf beginOf endOf firstOf count firstFree comesBefore better least
+unfolding toldBy bytesOf linesOf answersOf readOn callOf openUrgentOf closeUrgentOf offerCellOf turnOf openOf closeOf offerOf beginOf endOf firstOf count firstFree comesBefore better least
 closings =
     record {
       urgent = refl;

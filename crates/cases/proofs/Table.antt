@@ -10,8 +10,8 @@ use Rattle.fair.specs.Calls.{openOf, offerOf, beginOf, endOf}
 use Rattle.admission.specs.Demand.{demandOf, failsFrom}
 use Rattle.admission.specs.Verdicts.{firstBad}
 use Rattle.station.specs.Calls.{callOf}
-use Rattle.cases.specs.Table.{replies, Cases}
+use Rattle.cases.specs.Table.{toldBy, Cases}
 
 pub cases : Cases
-unfolding replies callOf openUrgentOf offerCellOf turnOf openOf offerOf beginOf endOf firstOf count firstFree comesBefore better least failsFrom demandOf firstBad
+unfolding toldBy callOf openUrgentOf offerCellOf turnOf openOf offerOf beginOf endOf firstOf count firstFree comesBefore better least failsFrom demandOf firstBad
 cases = refl

@@ -11,13 +11,13 @@ use Rattle.station.specs.declared.Call.the-variants.{OpenUrgent, OpenFair, Offe
 use Rattle.station.specs.Calls.{freshStation}
 use Rattle.session.specs.Whole.{sessionOf}
 use Rattle.units.specs.Texts.{bytesOf}
-use Rattle.cases.specs.Table.{Case, replies, declared, ok, no}
+use Rattle.cases.specs.Table.{Case, toldBy, declared, ok, no}
 
 -- deadlines 0 and 4,097 are bad; a flow above 15 and an open flow go first
 abbrev pub deadlineCase : Case
 deadlineCase =
     record {
-      answered = replies freshStation (OpenUrgent 0 0 ∷ OpenUrgent 0 4097 ∷ OpenUrgent 16 0 ∷ OpenUrgent 0 4096 ∷ OpenUrgent 0 0 ∷ []);
+      answered = toldBy freshStation (OpenUrgent 0 0 ∷ OpenUrgent 0 4097 ∷ OpenUrgent 16 0 ∷ OpenUrgent 0 4096 ∷ OpenUrgent 0 0 ∷ []);
       expected = no 14 ∷ no 14 ∷ no 1 ∷ ok ∷ no 3 ∷ [];
     }
 
@@ -26,7 +26,7 @@ abbrev pub weightCase : Case
 weightCase =
     record {
       answered =
-          replies freshStation
+          toldBy freshStation
           (OpenFair 0 0 ∷ OpenFair 0 17 ∷ OpenFair 16 0 ∷ OfferPacket 0 0 ∷ OpenFair 0 1 ∷ OpenFair 0 0 ∷ OfferPacket 16 0
           ∷ OfferPacket 0 0
           ∷ OfferPacket 0 1501

@@ -6,14 +6,14 @@ use Rattle.station.specs.declared.Call.the-variants.{OpenUrgent, OpenFair, Clos
 use Rattle.station.specs.Calls.{freshStation}
 use Rattle.session.specs.Whole.{sessionOf}
 use Rattle.units.specs.Texts.{bytesOf}
-use Rattle.cases.specs.Table.{Case, replies, ok, no}
+use Rattle.cases.specs.Table.{Case, toldBy, ok, no}
 
 -- a flow with a cell waiting is not closed; once the cell is sent it is, and opened again with a deadline of 5 its next cell is number 1
 abbrev pub urgentCase : Case
 urgentCase =
     record {
       answered =
-          replies freshStation
+          toldBy freshStation
           (OpenUrgent 0 2 ∷ OfferCell 0 ∷ CloseUrgent 0 ∷ OpenTurn ∷ CloseUrgent 0 ∷ CloseUrgent 0 ∷ OfferCell 0 ∷ CloseUrgent 16
           ∷ OpenUrgent 0 5
           ∷ OfferCell 0
@@ -31,7 +31,7 @@ abbrev pub fairCase : Case
 fairCase =
     record {
       answered =
-          replies freshStation
+          toldBy freshStation
           (OpenFair 0 1 ∷ OpenFair 1 1 ∷ OfferPacket 0 100 ∷ OfferPacket 1 1 ∷ Begin ∷ CloseFair 0 ∷ CloseFair 1 ∷ End ∷ CloseFair 0
           ∷ OfferPacket 0 1
           ∷ OpenFair 0 2

@@ -19,10 +19,10 @@ pub record Case : Type 0 where
   pub answered : List Told
   pub expected : List Told
 
--- the replies to calls, one after the other
-unfoldable pub replies : Station → List Call → List Told
-replies s [] = []
-replies s (call ∷ calls) = told (callOf s call .reply) ∷ replies (callOf s call .station) calls
+-- what the replies to calls tell, one after the other
+unfoldable pub toldBy : Station → List Call → List Told
+toldBy s [] = []
+toldBy s (call ∷ calls) = told (callOf s call .reply) ∷ toldBy (callOf s call .station) calls
 
 -- the fresh station, but at slot n
 abbrev pub freshAt : ℕ → Station
@@ -62,13 +62,13 @@ repliesA more =
     ∷ more
 
 abbrev pub A : Case
-A = record { answered = replies freshStation (callsA []); expected = repliesA [] }
+A = record { answered = toldBy freshStation (callsA []); expected = repliesA [] }
 
 -- after A has drained, flow 2 is opened with weight 1 and offers 1 byte
 abbrev pub B : Case
 B =
     record {
-      answered = replies freshStation (callsA (OpenFair 2 1 ∷ OfferPacket 2 1 ∷ []));
+      answered = toldBy freshStation (callsA (OpenFair 2 1 ∷ OfferPacket 2 1 ∷ []));
       expected = repliesA (ok ∷ values (0 ∷ 72072000 ∷ 72792720 ∷ []) ∷ []);
     }
 
@@ -78,21 +78,21 @@ C = record { answered = values (1500 * chargeOf 1 ∷ 1500 * chargeOf 16 ∷ [])
 abbrev pub D : Case
 D =
     record {
-      answered = replies freshStation (OpenUrgent 0 3 ∷ OpenUrgent 1 1 ∷ OfferCell 0 ∷ OfferCell 1 ∷ OpenTurn ∷ OpenTurn ∷ []);
+      answered = toldBy freshStation (OpenUrgent 0 3 ∷ OpenUrgent 1 1 ∷ OfferCell 0 ∷ OfferCell 1 ∷ OpenTurn ∷ OpenTurn ∷ []);
       expected = ok ∷ ok ∷ values (0 ∷ 2 ∷ []) ∷ values (0 ∷ 0 ∷ []) ∷ values (1 ∷ 0 ∷ 0 ∷ []) ∷ values (0 ∷ 0 ∷ 0 ∷ []) ∷ [];
     }
 
 abbrev pub E : Case
 E =
     record {
-      answered = replies freshStation (OpenUrgent 0 1 ∷ OfferCell 0 ∷ LostTurn ∷ []);
+      answered = toldBy freshStation (OpenUrgent 0 1 ∷ OfferCell 0 ∷ LostTurn ∷ []);
       expected = ok ∷ values (0 ∷ 0 ∷ []) ∷ values (1 ∷ []) ∷ [];
     }
 
 abbrev pub F : Case
 F =
     record {
-      answered = replies freshStation (OpenUrgent 0 2 ∷ OfferCell 0 ∷ OfferCell 0 ∷ OfferCell 0 ∷ OpenTurn ∷ OpenTurn ∷ []);
+      answered = toldBy freshStation (OpenUrgent 0 2 ∷ OfferCell 0 ∷ OfferCell 0 ∷ OfferCell 0 ∷ OpenTurn ∷ OpenTurn ∷ []);
       expected =
           ok
           ∷ values (0 ∷ 1 ∷ [])
@@ -106,7 +106,7 @@ F =
 abbrev pub H : Case
 H =
     record {
-      answered = replies (freshAt 3999999999) (OpenUrgent 0 1 ∷ OpenUrgent 1 2 ∷ OfferCell 0 ∷ OfferCell 1 ∷ []);
+      answered = toldBy (freshAt 3999999999) (OpenUrgent 0 1 ∷ OpenUrgent 1 2 ∷ OfferCell 0 ∷ OfferCell 1 ∷ []);
       expected = ok ∷ ok ∷ values (0 ∷ 3999999999 ∷ []) ∷ no 7 ∷ [];
     }
 

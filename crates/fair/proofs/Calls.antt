@@ -8,7 +8,7 @@ use borrow.Author.Tests.{lt-ltb, le-ltb, le-leb, lt-leb, eq-eqb, ne-eqb}
 use lib.Dec.{eqb}
 use lib.ListN.{length, set}
 use Rattle.units.specs.Limits.{placeCount, tagLimit, badWeight, badLength}
-use Rattle.units.specs.Refusals.{firstOf}
+use Rattle.units.specs.Refusals.{firstOf, unless}
 use Rattle.units.specs.declared.Tag.{Tag}
 use Rattle.units.specs.declared.Refusal.the-variants.{NoSuchFlow, NotOpen, AlreadyOpen, PlacesFull, TagsUsedUp, PacketInService, NothingWaits, NothingInService, FlowInUse, BadWeight, BadLength}
 use Rattle.places.specs.Places.{count, placesOf, firstFree}
@@ -24,7 +24,7 @@ use Rattle.fair.specs.declared.Fair.{Fair}
 use Rattle.fair.specs.declared.Done.{Done}
 use Rattle.fair.specs.declared.Answer.the-variants.{Accepted, Ended}
 use Rattle.fair.specs.Lane.{idle, flowAt, waitingOf, waiting, busyWith, startOf, keyOf, chosen, largestEnded}
-use Rattle.fair.specs.Calls.{refused, unless, opened, openOf, closed, closeOf, offerOf, begun, beginOf, ended, endOf}
+use Rattle.fair.specs.Calls.{refused, opened, openOf, closed, closeOf, offerOf, begun, beginOf, ended, endOf}
 
 module _ (u : Fair) (flow weight : ℕ) where
   pub open-1 : 15 < flow → refused u NoSuchFlow ≡ openOf u flow weight
@@ -126,7 +126,7 @@ module _ (u : Fair) (flow bytes : ℕ) where
 module _ (u : Fair) where
   -- what begin gives, by its two tests
   by-tests : Bool → Bool → Done
-  by-tests busy none = unless u (firstOf ((PacketInService, busy) ∷ (NothingWaits, none) ∷ [])) (begun u (chosen u))
+  by-tests busy none = unless (refused u) (firstOf ((PacketInService, busy) ∷ (NothingWaits, none) ∷ [])) (begun u (chosen u))
 
   pub begin-8 : u .service .busy ≡ true → refused u PacketInService ≡ beginOf u
   unfolding beginOf firstOf by-tests
@@ -146,12 +146,12 @@ module _ (u : Fair) where
 
   pub end-10 : not (u .service .busy) ≡ true → refused u NothingInService ≡ endOf u
   unfolding endOf firstOf
-  end-10 o = sym (ap (λ (t : Bool). unless u (firstOf ((NothingInService, t) ∷ [])) (ended u)) o)
+  end-10 o = sym (ap (λ (t : Bool). unless (refused u) (firstOf ((NothingInService, t) ∷ [])) (ended u)) o)
 
   module _ (o : not (u .service .busy) ≡ false) (largest : Tag) (g : largest ≡ largestEnded u) where
     ends : ended u ≡ endOf u
     unfolding endOf firstOf
-    ends = sym (ap (λ (t : Bool). unless u (firstOf ((NothingInService, t) ∷ [])) (ended u)) o)
+    ends = sym (ap (λ (t : Bool). unless (refused u) (firstOf ((NothingInService, t) ∷ [])) (ended u)) o)
 
     pub end-drained : waiting u ≡ 0
         → record {

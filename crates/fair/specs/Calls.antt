@@ -1,11 +1,10 @@
 -- What each call of the fair lane gives, over every state.
 use mathlib.Core.Bool.{true, false, cond}
-use mathlib.Core.Option.{Option, none, some}
 use Prim.Native.Nat.{ℕ, _+_, _*_}
 use lib.Dec.{eqb}
 use lib.ListN.{set}
 use Rattle.units.specs.Limits.{placeCount}
-use Rattle.units.specs.Refusals.{firstOf}
+use Rattle.units.specs.Refusals.{firstOf, unless}
 use Rattle.units.specs.declared.Refusal.{Refusal}
 use Rattle.units.specs.declared.Refusal.the-variants.{NothingWaits}
 use Rattle.places.specs.Places.{placesOf, flowOf, firstFree}
@@ -23,11 +22,6 @@ use Rattle.fair.specs.Lane.{idle, flowAt, waitingOf, waiting, busyWith, 
 abbrev pub refused : Fair → Refusal → Done
 refused u r = record { lane = u; answer = Refused r }
 
--- a call goes through unless some refusal applies
-abbrev pub unless : Fair → Option Refusal → Done → Done
-unless u none done = done
-unless u (some r) done = refused u r
-
 -- the lane with another record of a flow
 abbrev pub withFlow : Fair → ℕ → Flow → Fair
 withFlow u flow x =
@@ -43,7 +37,7 @@ opened u flow weight =
 
 -- what opening a flow with a weight gives
 unfoldable pub openOf : Fair → ℕ → ℕ → Done
-openOf u flow weight = unless u (firstOf (openingGrounds flow weight (flowAt u flow))) (opened u flow weight)
+openOf u flow weight = unless (refused u) (firstOf (openingGrounds flow weight (flowAt u flow))) (opened u flow weight)
 
 -- closing: the flow's record keeps its weight, its numbers and its last finish, and loses its mark
 abbrev pub closed : Fair → ℕ → Done
@@ -57,7 +51,7 @@ closed u flow =
 
 -- what closing a flow gives
 unfoldable pub closeOf : Fair → ℕ → Done
-closeOf u flow = unless u (firstOf (closingGrounds flow (flowAt u flow) (waitingOf u flow) (busyWith (u .service) flow))) (closed u flow)
+closeOf u flow = unless (refused u) (firstOf (closingGrounds flow (flowAt u flow) (waitingOf u flow) (busyWith (u .service) flow))) (closed u flow)
 
 -- offering: the packet gets its tags and its number, and takes the flow's first free place; virtual time stays
 abbrev pub accepted : Fair → ℕ → ℕ → Done
@@ -81,7 +75,7 @@ accepted u flow length =
 -- what offering a packet of a length gives
 unfoldable pub offerOf : Fair → ℕ → ℕ → Done
 offerOf u flow length =
-    unless u (firstOf (offeringGrounds flow (flowAt u flow) (waitingOf u flow) (startOf u flow) length)) (accepted u flow length)
+    unless (refused u) (firstOf (offeringGrounds flow (flowAt u flow) (waitingOf u flow) (startOf u flow) length)) (accepted u flow length)
 
 -- begin: the packet that goes first leaves its place for the service, and virtual time becomes its start tag
 abbrev pub begun : Fair → Choice Packet → Done
@@ -101,7 +95,7 @@ begun u (at place p) =
 
 -- what begin gives
 unfoldable pub beginOf : Fair → Done
-beginOf u = unless u (firstOf (beginGrounds u)) (begun u (chosen u))
+beginOf u = unless (refused u) (firstOf (beginGrounds u)) (begun u (chosen u))
 
 -- end: the service is idle again; where none waits, virtual time becomes the largest finish tag of all packets ended
 abbrev pub ended : Fair → Done
@@ -120,4 +114,4 @@ ended u =
 
 -- what end gives
 unfoldable pub endOf : Fair → Done
-endOf u = unless u (firstOf (endGrounds u)) (ended u)
+endOf u = unless (refused u) (firstOf (endGrounds u)) (ended u)

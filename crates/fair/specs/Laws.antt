@@ -3,7 +3,7 @@ use mathlib.Core.Path.{_≡_}
 use mathlib.Core.Bool.{true, false}
 use mathlib.Core.Option.{some}
 use Prim.Native.Nat.{ℕ, _<_}
-use lib.ListN.{length, getD}
+use lib.ListN.{length, getD, set}
 use Rattle.units.specs.Limits.{placeCount}
 use Rattle.units.specs.Refusals.{firstOf}
 use Rattle.units.specs.declared.Refusal.{Refusal}
@@ -23,20 +23,25 @@ use Rattle.fair.specs.Answers.{refusalIn}
 abbrev pub packetAt : Fair → ℕ → Packet
 packetAt u place = getD (u .packets) place freePacket
 
--- the packet that was answered waited in some place, and no waiting packet comes before it by start tag, flow and number
-pub record Taken (u : Fair) (flow number bytes : ℕ) (start : Tag) : Type 0 where
+-- the packet that a begin answers waited in some place, no waiting packet comes before it by start tag, flow and number, and of the
+-- places the begin frees just that one
+pub record BegunFirst (u : Fair) (flow number bytes : ℕ) (start : Tag) : Type 0 where
   pub place : ℕ
   pub within : place < length (u .packets)
   pub waited : isHeld (packetAt u place) ≡ true
-  pub flow-told : flow ≡ flowOf placeCount place
-  pub number-told : number ≡ packetAt u place .number
-  pub length-told : bytes ≡ packetAt u place .length
-  pub start-told : start ≡ packetAt u place .start
-  pub goes-first : (other : ℕ) → isHeld (packetAt u other) ≡ true → comesBefore (keyOf other (packetAt u other)) (keyOf place (packetAt u place)) ≡ false
+  pub flowTold : flow ≡ flowOf placeCount place
+  pub numberTold : number ≡ packetAt u place .number
+  pub lengthTold : bytes ≡ packetAt u place .length
+  pub startTold : start ≡ packetAt u place .start
+  pub goesFirst :
+      (other : ℕ) → isHeld (packetAt u other) ≡ true
+      → comesBefore (keyOf other (packetAt u other)) (keyOf place (packetAt u place)) ≡ false
+  pub freed : beginOf u .lane .packets ≡ set (u .packets) place freePacket
 
--- Every begin that is not refused takes a packet that waited, and no waiting packet comes before it.
+-- Every begin that is not refused begins the packet that goes first.
 abbrev pub BeginsFirst : Type 0
-BeginsFirst = (u : Fair) (flow number bytes : ℕ) (start : Tag) → beginOf u .answer ≡ Begun flow number bytes start → Taken u flow number bytes start
+BeginsFirst =
+    (u : Fair) (flow number bytes : ℕ) (start : Tag) → beginOf u .answer ≡ Begun flow number bytes start → BegunFirst u flow number bytes start
 
 -- Each call is refused exactly for the first of its grounds that holds.
 pub record RefusedFirst (u : Fair) : Type 0 where

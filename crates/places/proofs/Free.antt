@@ -54,6 +54,10 @@ module _ {A : Type 0} (held : A → Bool) where
       go r true p q = r (omega arith)
       go r false p q = p
 
+-- a tally of the held ones of n places from b on has come to the i-th of them with m
+abbrev pub Tallied : {A : Type 0} → (A → Bool) → List A → ℕ → ℕ → ℕ → ℕ → Type 0
+Tallied held all b n i m = (i ≤ n) × (m ≤ i) × (m ≡ count held (take i (take n (drop b all))))
+
 -- a part of n places from b on, scanned from its end: k is the first free place from i on
 module _ {A : Type 0} (held : A → Bool) (d : A) (all : List A) (b n : ℕ) (fits : b + n ≤ length all) where
   abbrev pub part : List A
@@ -74,16 +78,16 @@ module _ {A : Type 0} (held : A → Bool) (d : A) (all : List A) (b n : ℕ) (fi
   part-at : (i : ℕ) → i < n → getD part i d ≡ getD all (b + i) d
   part-at i h = getD-take n (drop b all) i d h ∙ getD-drop b all i d
 
-  -- a tally of the part's held places that has come to its place i
-  module _ (i m : ℕ) (h : i < n) (e : m ≡ count held (take i part)) where
-    pub part-more : held (getD all (b + i) d) ≡ true → m + 1 ≡ count held (take (i + 1) part)
-    part-more t = tally-more held part i m d (omega (arith, part-length)) e (rw (part-at i h) t)
+  -- each step of a tally, and what it comes to
+  module _ (i m : ℕ) (h : i < n) (t : Tallied held all b n i m) where
+    pub tallied-more : held (getD all (b + i) d) ≡ true → Tallied held all b n (i + 1) (m + 1)
+    tallied-more y = (omega arith, omega (arith, t .1), tally-more held part i m d (omega (arith, part-length)) (t .2) (rw (part-at i h) y))
 
-    pub part-same : held (getD all (b + i) d) ≡ false → m ≡ count held (take (i + 1) part)
-    part-same t = tally-same held part i m d (omega (arith, part-length)) e (rw (part-at i h) t)
+    pub tallied-same : held (getD all (b + i) d) ≡ false → Tallied held all b n (i + 1) m
+    tallied-same y = (omega arith, omega (arith, t .1), tally-same held part i m d (omega (arith, part-length)) (t .2) (rw (part-at i h) y))
 
-  pub part-ends : (i m : ℕ) → m ≡ count held (take i part) → n ≤ i → m ≡ count held part
-  part-ends i m e h = tally-ends held part i m e (omega (arith, part-length))
+  pub tallied-ends : (i m : ℕ) → Tallied held all b n i m → n ≤ i → m ≡ count held part
+  tallied-ends i m t h = tally-ends held part i m (t .2) (omega (arith, part-length))
 
   step : (i : ℕ) → i < n → firstFree held (drop i part) ≡ cond (held (getD all (b + i) d)) (suc (firstFree held (drop (suc i) part))) 0
   unfolding firstFree

@@ -10,3 +10,8 @@ pub mod Members
 pub mod Tests
 pub mod Stores
 pub mod Marks
+pub mod Numbers
+pub mod Waiting
+pub mod Leading
+pub mod Coming
+pub mod Leaving

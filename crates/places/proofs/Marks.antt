@@ -30,23 +30,23 @@ module _ (P : ℕ → Type 0) (marks : List Mark) (k : (f : ℕ) → openIn mark
       go true o = absurd (false≢true o)
       go false o = k f o
 
--- the record of a flow has its mark and the number in force; n flows are told of
+-- the record of a flow has its mark and the number in force, for n flows
 module _ {F : Type 0} (opened : F → Bool) (number : F → ℕ) (shut : F) (n : ℕ) where
-  abbrev pub Told : List F → List Mark → Type 0
-  Told flows marks = (f : ℕ) → f < n → (opened (getD flows f shut) ≡ openIn marks f) × (number (getD flows f shut) ≡ inForce marks f)
+  abbrev pub AsMarked : List F → List Mark → Type 0
+  AsMarked flows marks = (f : ℕ) → f < n → (opened (getD flows f shut) ≡ openIn marks f) × (number (getD flows f shut) ≡ inForce marks f)
 
-  module _ (flows : List F) (marks : List Mark) (k : Told flows marks) (flow : ℕ) (x : F) (low : flow < length flows) where
-    pub told-opened : opened x ≡ true → Told (set flows flow x) (opens flow (number x) ∷ marks)
+  module _ (flows : List F) (marks : List Mark) (k : AsMarked flows marks) (flow : ℕ) (x : F) (low : flow < length flows) where
+    pub marked-opened : opened x ≡ true → AsMarked (set flows flow x) (opens flow (number x) ∷ marks)
     unfolding openIn inForce
-    told-opened o f b =
+    marked-opened o f b =
         set-cases flows flow x shut low f
         (λ y. (opened y ≡ cond (eqb flow f) true (openIn marks f)) × (number y ≡ cond (eqb flow f) (number x) (inForce marks f)))
         (λ e. rw (e, eqb-self flow) (o, refl))
         (λ e. rw (ne-eqb flow f (λ q. e (sym q))) (k f b))
 
-    pub told-closed : opened x ≡ false → number x ≡ inForce marks flow → Told (set flows flow x) (closes flow ∷ marks)
+    pub marked-closed : opened x ≡ false → number x ≡ inForce marks flow → AsMarked (set flows flow x) (closes flow ∷ marks)
     unfolding openIn inForce
-    told-closed o i f b =
+    marked-closed o i f b =
         set-cases flows flow x shut low f (λ y. (opened y ≡ cond (eqb flow f) false (openIn marks f)) × (number y ≡ inForce marks f))
         (λ e. rw (e, eqb-self flow) (o, i))
         (λ e. rw (ne-eqb flow f (λ q. e (sym q))) (k f b))

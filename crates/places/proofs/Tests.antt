@@ -1,6 +1,6 @@
 -- Tests joined and turned round, for any numbers.
 use mathlib.Core.Path.{_≡_, refl, sym}
-use mathlib.Core.Bool.{Bool, true, false, _&&_, false≢true}
+use mathlib.Core.Bool.{Bool, true, false, _&&_, _||_, false≢true, true≢false}
 use Prim.Native.Nat.{ℕ}
 use borrow.Author.Tests.{eqb-true, eqb-false, eq-eqb, ne-eqb}
 use lib.Dec.{eqb}
@@ -15,6 +15,11 @@ and-holds false b e = refl
 pub and-told : (a b : Bool) → (a && b) ≡ true → (a ≡ true) × (b ≡ true)
 and-told true b e = (refl, e)
 and-told false b e = absurd (false≢true e)
+
+-- neither holds where not even one of them does
+pub neither-told : (a b : Bool) → (a || b) ≡ false → (a ≡ false) × (b ≡ false)
+neither-told true b e = absurd (true≢false e)
+neither-told false b e = (refl, e)
 
 pub eqb-self : (n : ℕ) → eqb n n ≡ true
 eqb-self n = eq-eqb n n refl

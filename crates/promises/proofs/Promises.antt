@@ -14,11 +14,11 @@ use Rattle.promises_urgent.proofs.Account.{offer-told as cell-told}
 use Rattle.promises_urgent.proofs.Own.{own-plan}
 use Rattle.promises_urgent.proofs.Optimal.{none-better}
 use Rattle.promises_urgent.proofs.Reason.{explained}
-use Rattle.promises_fair.proofs.Account.{as-published, served-in-order, ends-and-numbers}
+use Rattle.promises_fair.proofs.Account.{begins-first, served-in-order, ends-last, numbers-go-on}
 use Rattle.promises_fair.proofs.Account.{offer-told as packet-told}
 use Rattle.promises.specs.Run.{fresh, run}
 use Rattle.promises.specs.Promises.{Promises}
-use Rattle.promises.proofs.Run.{run-on, good-run, fair-run, time-run, refused-as-told, urgent-only, fair-only}
+use Rattle.promises.proofs.Run.{run-on, good-run, fair-run, time-run, refused-as-noted, urgent-only, fair-only}
 use Rattle.promises.proofs.Sessions.{calls-answered, others-answered}
 use Rattle.promises.proofs.Texts.{commands-spelled, replies-spelled}
 
@@ -36,7 +36,7 @@ promises =
       S2-never4 = never-4;
       S3-urgent = urgent-only;
       S3-fair = fair-only;
-      S4 = refused-as-told;
+      S4 = refused-as-noted;
       U0 = λ calls. good-run calls .kept .time;
       U1 = λ calls.
           let r = run calls in
@@ -45,17 +45,18 @@ promises =
       U2 = λ calls. sends-earliest (run calls .station .urgent) (run calls .cells) (good-run calls .kept);
       U3 = λ calls. cell-told (run calls .station .urgent) (run calls .cells) (good-run calls .kept);
       U3-numbers = λ calls. good-run calls .kept .numbered;
+      U3-windows = λ calls. good-run calls .kept .windowed;
       U3-few = λ calls. few-numbers (run calls .station .urgent) (run calls .cells) (good-run calls .kept) (good-run calls .few);
-      U4 = λ calls. own-plan (run calls .cells) (good-run calls .sends) (good-run calls .kept .numbered);
+      U4 = λ calls. own-plan (run calls .cells) (good-run calls .sends) (good-run calls .kept .windowed);
       U5 = λ calls. none-better (run calls .cells) (good-run calls .best);
       U6 = λ calls. explained (run calls .cells) (good-run calls .reasons);
       U7 = λ calls. good-run calls .terms;
-      F1-time = λ calls. as-published (run calls .station .fair) (run calls .packets) (fair-run calls) .time;
+      F1-time = λ calls. fair-run calls .kept .time;
       F1 = λ calls. packet-told (run calls .station .fair) (run calls .packets) (fair-run calls);
-      F2 = λ calls. served-in-order (run calls .station .fair) (run calls .packets) (fair-run calls) .first;
+      F2 = λ calls. begins-first (run calls .station .fair) (run calls .packets) (fair-run calls);
       F2-order = λ calls. served-in-order (run calls .station .fair) (run calls .packets) (fair-run calls);
-      F3 = λ calls. ends-and-numbers (run calls .station .fair) (run calls .packets) (fair-run calls) .ends;
-      F3-numbers = λ calls. ends-and-numbers (run calls .station .fair) (run calls .packets) (fair-run calls);
+      F3 = λ calls. ends-last (run calls .station .fair) (run calls .packets) (fair-run calls);
+      F3-numbers = λ calls. numbers-go-on (run calls .station .fair) (run calls .packets) (fair-run calls);
       F4 = time-run;
       F4-charges = product-rule;
       F5 = λ calls. fair-run calls .terms;

@@ -14,13 +14,13 @@ use Rattle.station.specs.Laws.{isUrgent}
 use Rattle.station.proofs.Laws.{lanes-apart}
 use Rattle.units.specs.Refusals.{firstOf}
 use Rattle.station.specs.Answers.{refusalIn}
-use Rattle.promises_urgent.proofs.Account.{refused-as-told as urgent-told}
-use Rattle.promises_fair.proofs.Account.{refused-as-told as fair-told, opening-keeps, closing-keeps, offer-keeps, never-falls}
+use Rattle.promises_urgent.proofs.Account.{refused-as-noted as urgent-noted}
+use Rattle.promises_fair.proofs.Account.{refused-as-noted as fair-noted, opening-keeps, closing-keeps, offer-keeps, never-falls}
 use Rattle.promises_fair.specs.Packets.{virtualTime}
 use Rattle.fair.specs.Calls.{openOf as openFairOf, closeOf as closeFairOf, offerOf as offerPacketOf}
 use Rattle.promises_fair.proofs.Good.{Good as FairGood, good-fresh as fair-fresh, good-open as fair-open, good-close as fair-close, good-offer as fair-offer, good-begin, good-end, good-other}
 use Rattle.promises_urgent.proofs.Good.{Good, good-fresh, good-open, good-close, good-offer, good-turn}
-use Rattle.promises.specs.Promises.{isFair, groundsTold}
+use Rattle.promises.specs.Promises.{isFair, groundsNoted}
 use Rattle.promises.specs.Run.{Run, after, fresh, run, runFrom, replies, repliesTo, only}
 
 pub run-on : (r : Run) (xs ys : List Call) → runFrom r (xs ++ ys) ≡ runFrom (runFrom r xs) ys
@@ -101,21 +101,21 @@ pub time-run : (xs ys : List Call) → virtualTime (run xs .packets .moments) �
 time-run xs ys = rw (run-on fresh xs ys) (time-from (run xs) ys (fair-run xs))
 
 -- ---- what a call is refused for
-refused-from : (r : Run) → GoodRun r → FairRun r → (call : Call) → refusalIn (callOf (r .station) call .reply) ≡ firstOf (groundsTold r call)
+refused-from : (r : Run) → GoodRun r → FairRun r → (call : Call) → refusalIn (callOf (r .station) call .reply) ≡ firstOf (groundsNoted r call)
 unfolding callOf
-refused-from r g f (OpenUrgent flow deadline) = urgent-told (r .station .urgent) (r .cells) (g .kept) .opening flow deadline
-refused-from r g f (OpenFair flow weight) = fair-told (r .station .fair) (r .packets) f .opening flow weight
-refused-from r g f (CloseUrgent flow) = urgent-told (r .station .urgent) (r .cells) (g .kept) .closing flow
-refused-from r g f (CloseFair flow) = fair-told (r .station .fair) (r .packets) f .closing flow
-refused-from r g f (OfferCell flow) = urgent-told (r .station .urgent) (r .cells) (g .kept) .offering flow
-refused-from r g f (OfferPacket flow length) = fair-told (r .station .fair) (r .packets) f .offering flow length
-refused-from r g f OpenTurn = urgent-told (r .station .urgent) (r .cells) (g .kept) .turning true
-refused-from r g f LostTurn = urgent-told (r .station .urgent) (r .cells) (g .kept) .turning false
-refused-from r g f Begin = fair-told (r .station .fair) (r .packets) f .beginning
-refused-from r g f End = fair-told (r .station .fair) (r .packets) f .ending
+refused-from r g f (OpenUrgent flow deadline) = urgent-noted (r .station .urgent) (r .cells) (g .kept) .opening flow deadline
+refused-from r g f (OpenFair flow weight) = fair-noted (r .station .fair) (r .packets) f .opening flow weight
+refused-from r g f (CloseUrgent flow) = urgent-noted (r .station .urgent) (r .cells) (g .kept) .closing flow
+refused-from r g f (CloseFair flow) = fair-noted (r .station .fair) (r .packets) f .closing flow
+refused-from r g f (OfferCell flow) = urgent-noted (r .station .urgent) (r .cells) (g .kept) .offering flow
+refused-from r g f (OfferPacket flow length) = fair-noted (r .station .fair) (r .packets) f .offering flow length
+refused-from r g f OpenTurn = urgent-noted (r .station .urgent) (r .cells) (g .kept) .turning true
+refused-from r g f LostTurn = urgent-noted (r .station .urgent) (r .cells) (g .kept) .turning false
+refused-from r g f Begin = fair-noted (r .station .fair) (r .packets) f .beginning
+refused-from r g f End = fair-noted (r .station .fair) (r .packets) f .ending
 
-pub refused-as-told : (calls : List Call) (call : Call) → refusalIn (callOf (run calls .station) call .reply) ≡ firstOf (groundsTold (run calls) call)
-refused-as-told calls call = refused-from (run calls) (good-run calls) (fair-run calls) call
+pub refused-as-noted : (calls : List Call) (call : Call) → refusalIn (callOf (run calls .station) call .reply) ≡ firstOf (groundsNoted (run calls) call)
+refused-as-noted calls call = refused-from (run calls) (good-run calls) (fair-run calls) call
 
 -- ---- the lanes apart: of two stations with one lane alike, one gets all calls and the other only those of that lane
 module _ (test : Call → Bool) (Alike : Station → Station → Type 0)

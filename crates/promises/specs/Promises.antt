@@ -10,12 +10,12 @@ use Rattle.units.specs.declared.Refusal.the-variants.{NoSuchFlow, NotOpen, Alre
 use Rattle.units.specs.Charges.{ProductRule}
 use Rattle.units.specs.Radio.{slotsPassed}
 use Rattle.admission.specs.Published.{Published}
-use Rattle.promises_urgent.specs.Promised.{OnTime, acceptedOf, Accounted, Earliest, lastIn, Numbered, FewNumbers, OwnPlan, NoneBetter, Explained, TermsStand}
-use Rattle.promises_urgent.specs.Refused.{openingTold as urgentOpening, closingTold as urgentClosing, offeringTold as cellOffering, turnTold}
+use Rattle.promises_urgent.specs.Promised.{OnTime, acceptedOf, Accounted, Earliest, lastIn, CellsNumbered, Windowed, FewNumbers, OwnPlan, NoneBetter, Explained, TermsStand}
+use Rattle.promises_urgent.specs.Refused.{openingNoted as urgentOpening, closingNoted as urgentClosing, offeringNoted as cellOffering, turnNoted}
 use Rattle.promises_fair.specs.Packets.{virtualTime}
-use Rattle.promises_fair.specs.Promised.{acceptedOf as packetsOf, startIn, finishTag, First, ServedInOrder, LastBegun, EndsAndNumbers}
+use Rattle.promises_fair.specs.Promised.{acceptedOf as packetsOf, startIn, finishTag, First, ServedInOrder, LastBegun, NumbersGoOn}
 use Rattle.promises_fair.specs.Promised.{TermsStand as FairTermsStand}
-use Rattle.promises_fair.specs.Refused.{openingTold as fairOpening, closingTold as fairClosing, offeringTold as packetOffering, beginTold, endTold}
+use Rattle.promises_fair.specs.Refused.{openingNoted as fairOpening, closingNoted as fairClosing, offeringNoted as packetOffering, beginNoted, endNoted}
 use Rattle.station.specs.declared.Call.{Call}
 use Rattle.station.specs.declared.Call.the-variants.{OpenUrgent, OpenFair, CloseUrgent, CloseFair, OfferCell, OfferPacket, OpenTurn, LostTurn, Begin, End}
 use Rattle.station.specs.Calls.{freshStation}
@@ -56,17 +56,17 @@ byNumber =
 
 -- what a call is refused for, read off the calls and replies so far: open is opened and not closed since; waiting is accepted, not sent
 -- and not gone by, or accepted and not begun; in service is a begin answered and no end since; the slot is U0's and the tags are F1's
-abbrev pub groundsTold : Run → Call → List Ground
-groundsTold r (OpenUrgent flow deadline) = urgentOpening (r .cells) flow deadline
-groundsTold r (OpenFair flow weight) = fairOpening (r .packets) flow weight
-groundsTold r (CloseUrgent flow) = urgentClosing (r .cells) flow
-groundsTold r (CloseFair flow) = fairClosing (r .packets) flow
-groundsTold r (OfferCell flow) = cellOffering (r .cells) flow
-groundsTold r (OfferPacket flow length) = packetOffering (r .packets) flow length
-groundsTold r OpenTurn = turnTold (r .cells)
-groundsTold r LostTurn = turnTold (r .cells)
-groundsTold r Begin = beginTold (r .packets)
-groundsTold r End = endTold (r .packets)
+abbrev pub groundsNoted : Run → Call → List Ground
+groundsNoted r (OpenUrgent flow deadline) = urgentOpening (r .cells) flow deadline
+groundsNoted r (OpenFair flow weight) = fairOpening (r .packets) flow weight
+groundsNoted r (CloseUrgent flow) = urgentClosing (r .cells) flow
+groundsNoted r (CloseFair flow) = fairClosing (r .packets) flow
+groundsNoted r (OfferCell flow) = cellOffering (r .cells) flow
+groundsNoted r (OfferPacket flow length) = packetOffering (r .packets) flow length
+groundsNoted r OpenTurn = turnNoted (r .cells)
+groundsNoted r LostTurn = turnNoted (r .cells)
+groundsNoted r Begin = beginNoted (r .packets)
+groundsNoted r End = endNoted (r .packets)
 
 pub record Promises : Type 0 where
   -- a list of calls goes on where a shorter one left off
@@ -86,19 +86,21 @@ pub record Promises : Type 0 where
   pub S3-urgent : (calls : List Call) → repliesTo isUrgent freshStation calls ≡ replies freshStation (only isUrgent calls)
   pub S3-fair : (calls : List Call) → repliesTo isFair freshStation calls ≡ replies freshStation (only isFair calls)
   -- S4: a call is refused exactly as the calls and replies so far tell; with S0, one that no condition refuses is accepted
-  pub S4 : (calls : List Call) (call : Call) → refusalIn (replyTo calls call) ≡ firstOf (groundsTold (run calls) call)
+  pub S4 : (calls : List Call) (call : Call) → refusalIn (replyTo calls call) ≡ firstOf (groundsNoted (run calls) call)
   -- U0: time is the calls': the slot number is the number of turns answered and not refused
   pub U0 : (calls : List Call) → OnTime (run calls .station .urgent) (run calls .cells)
   -- U1: accepted = sent + missed + waiting, and the places held are the waiting cells
   pub U1 : (calls : List Call) → Accounted (run calls .station .urgent) (run calls .cells)
-  -- U2: an open turn sends the waiting cell with the earliest last slot; that no other cell leaves by sending is U1 after the turn
+  -- U2: an open turn sends the waiting cell with the earliest last slot, ties to the lowest flow and then the lowest number; that no other
+  -- cell leaves by sending is U1 after the turn
   pub U2 : (calls : List Call) → onUrgent (Earliest (run calls .cells)) (replyTo calls OpenTurn)
   -- U3: an accepted cell is told how many of its flow were accepted before it, and the last slot of its window; no number wraps
   pub U3 :
       (calls : List Call) (flow : ℕ) → refusalIn (replyTo calls (OfferCell flow)) ≡ none
       → told (replyTo calls (OfferCell flow)) .values ≡ acceptedOf (run calls .cells) flow ∷ lastIn (run calls .cells) flow ∷ []
-  pub U3-numbers : (calls : List Call) → Numbered (run calls .cells .accepted)
-  pub U3-few : (calls : List Call) → FewNumbers (run calls .station .urgent) (run calls .cells)
+  pub U3-numbers : (calls : List Call) → CellsNumbered (run calls .cells .accepted)
+  pub U3-windows : (calls : List Call) → Windowed (run calls .cells .accepted)
+  pub U3-few : (calls : List Call) → FewNumbers (run calls .station .urgent)
   -- U4: the lane's own sendings are a plan: each cell once, in an open slot, inside its window
   pub U4 : (calls : List Call) → OwnPlan (run calls .cells)
   -- U5: demand 3: no plan, even one drawn up in hindsight, could have sent more
@@ -113,12 +115,13 @@ pub record Promises : Type 0 where
       (calls : List Call) (flow length : ℕ) → refusalIn (replyTo calls (OfferPacket flow length)) ≡ none
       → told (replyTo calls (OfferPacket flow length)) .values
       ≡ packetsOf (run calls .packets) flow ∷ startIn (run calls .packets) flow ∷ finishTag (run calls .packets) flow length ∷ []
-  -- F2: begin takes the waiting packet with the smallest start tag, within a flow the lowest number; the places held are the waiting packets
+  -- F2: begin takes the waiting packet with the smallest start tag, ties to the lowest flow; a flow's packets are begun in the order of their
+  -- numbers; the places held are the waiting packets
   pub F2 : (calls : List Call) → onFair (First (run calls .packets)) (replyTo calls Begin)
   pub F2-order : (calls : List Call) → ServedInOrder (run calls .station .fair) (run calls .packets)
   -- F3: end answers the packet last begun; packets are numbered from 0 in each flow, and no number wraps
   pub F3 : (calls : List Call) → onFair (LastBegun (run calls .packets .moments)) (replyTo calls End)
-  pub F3-numbers : (calls : List Call) → EndsAndNumbers (run calls .station .fair) (run calls .packets)
+  pub F3-numbers : (calls : List Call) → NumbersGoOn (run calls .station .fair) (run calls .packets)
   -- F4: virtual time never falls, and every charge times its weight is 720,720
   pub F4 : (xs ys : List Call) → virtualTime (run xs .packets .moments) ≤ virtualTime (run (xs ++ ys) .packets .moments)
   pub F4-charges : ProductRule

@@ -1,79 +1,68 @@
 -- What the calls keep says of the promises: F1 to F4 of tags, service, ends and virtual time, and S4 of refusals.
-use mathlib.Core.Path.{_≡_, refl, sym, _∙_}
-use mathlib.Core.Bool.{Bool, true, false, cond, _&&_, true≢false}
+use mathlib.Core.Path.{_≡_, refl, sym, ap, _∙_}
+use mathlib.Core.Bool.{Bool, true, false, cond, true≢false}
 use mathlib.Core.List.{List, [], _∷_}
 use mathlib.Core.Option.{none}
 use Prim.Native.Nat.{ℕ, _≤_, max}
 use native.Mathlib.Nat.{le-refl}
 use native.Mathlib.Omega.{arith}
 use lib.Dec.{eqb}
-use Rattle.units.proofs.Refusals.{after-flow}
-use Rattle.places.specs.Choice.{comesBefore, at}
-use Rattle.places.proofs.Members.{none-passes, each-map, some-map}
-use Rattle.places.proofs.Tests.{and-holds}
-use Rattle.tags.specs.declared.Packet.{Packet as Place}
+use Rattle.units.proofs.Refusals.{after-flow, none-is-none}
+use Rattle.places.proofs.Leading.{it-is-first}
+use Rattle.places.proofs.Members.{some-map}
+use Rattle.tags.specs.Tags.{freePacket, isHeld}
 use Rattle.fair.specs.declared.Service.{Service}
 use Rattle.fair.specs.declared.Fair.{Fair}
 use Rattle.fair.specs.declared.Answer.{Answer}
 use Rattle.fair.specs.declared.Answer.the-variants.{Refused, Opened, Closed, Accepted, Begun, Ended}
 use Rattle.fair.specs.Answers.{told, refusalIn}
-use Rattle.fair.specs.Calls.{offerOf}
-use Rattle.fair.specs.Lane.{keyOf, chosen}
+use Rattle.fair.specs.Calls.{offerOf, beginOf, endOf}
 use Rattle.fair.proofs.Cases.{offer-cases, begin-cases, end-cases}
 use Rattle.fair.proofs.Refused.{refused-first}
 use Rattle.promises_fair.specs.Packets.{Packet, Moment, began, ceased, Packets, waits, waitingAll, inService, lastStart, largestEnded, virtualTime}
 use Rattle.promises_fair.specs.Notes.{noteOpening, noteClosing, noteOffer, noteService}
-use Rattle.promises_fair.specs.Promised.{acceptedOf, startIn, finishTag, Tagged, AsPublished, packetKey, First, ServedInOrder, LastBegun, EndsAndNumbers, NeverFalls}
-use Rattle.promises_fair.specs.Refused.{RefusedAsTold}
-use Rattle.promises_fair.proofs.Kept.{asks, Serves, serving-told, waiting-told, waiting-all}
+use Rattle.promises_fair.specs.Promised.{acceptedOf, startIn, finishTag, First, ServedInOrder, LastBegun, NumbersGoOn, NeverFalls}
+use Rattle.promises_fair.specs.Refused.{RefusedAsNoted}
+use Rattle.promises_fair.proofs.Kept.{Serves, Facts, placeFacts, packetFacts, packets-tied, serving-told, waiting-told, waiting-all}
 use Rattle.promises_fair.proofs.Offered.{start-told, finish-told}
-use Rattle.promises_fair.proofs.Chosen.{placeFlow, before, WaitsAt, none-before, chosen-waits, chosen-late}
+use Rattle.promises_fair.proofs.Chosen.{factsKey, alike, alike-self, alike-told, lead, chosen-late}
 use Rattle.promises_fair.proofs.Ceased.{finishOfThis, InService, in-service}
 use Rattle.promises_fair.proofs.Good.{Good}
 
--- F1
-pub as-published : (u : Fair) (h : Packets) → Good u h → AsPublished u h
-as-published u h g =
+-- F1: what an accepted offer is told
+pub offer-told : (u : Fair) (h : Packets) → Good u h → (flow length : ℕ) → refusalIn (offerOf u flow length .answer) ≡ none
+    → told (offerOf u flow length .answer) .values ≡ acceptedOf h flow ∷ startIn h flow ∷ finishTag h flow length ∷ []
+offer-told u h g flow length =
     let k = g .kept in
-    record {
-      time = k .time;
-      tags = λ flow length.
-          offer-cases u (λ d. Tagged h flow length (d .answer)) (λ r. tt) flow length
-          (λ low o good room fits few. (
-            k .next flow (omega arith),
-            start-told u (h .marks) (h .accepted) (h .moments) k flow low,
-            finish-told u (h .marks) (h .accepted) (h .moments) k flow low length,
-          ));
-    }
+    offer-cases u
+    (λ d. refusalIn (d .answer) ≡ none → told (d .answer) .values ≡ acceptedOf h flow ∷ startIn h flow ∷ finishTag h flow length ∷ [])
+    (λ r e. absurd (none-is-none r (sym e))) flow length
+    (λ low o good room fits few e. rw (
+      k .next flow (omega arith),
+      finish-told u (h .marks) (h .accepted) (h .moments) k flow low length,
+      start-told u (h .marks) (h .accepted) (h .moments) k flow low,
+    ))
 
--- F2: no packet that waits comes before the one that begins
-module _ (u : Fair) (h : Packets) (g : Good u h) (place : ℕ) (p : Place) (e : chosen u ≡ at place p) where
-  not-before : (a : Packet) → packetKey a ≡ keyOf place p → (b : Packet) → (asks (before place p) b && waits h b) ≡ false
-      → waits h b ≡ true → comesBefore (packetKey b) (packetKey a) ≡ false
-  not-before a s b f w = rw s (sym (and-holds (asks (before place p) b) (waits h b) w) ∙ f)
-
-  begun-first : First h (Begun (placeFlow place) (p .number) (p .length) (p .start))
-  begun-first =
-      let none = none-before u (h .marks) (h .accepted) (h .moments) (g .kept) place p e in
-      some-map (WaitsAt (h .moments) place p) _
-      (λ a t.
-      let s : packetKey a ≡ keyOf place p = λ i. record { rank = t .1 .3 i; flow = t .1 .0 i; number = t .1 .1 i } in (
-        t .0,
-        t .1 .0,
-        t .1 .1,
-        t .1 .2,
-        t .1 .3,
-        each-map (λ (b : Packet). (asks (before place p) b && waits h b) ≡ false) _ (not-before a s) (h .accepted) (none-passes _ (h .accepted) none),
-      ))
-      (h .accepted) (chosen-waits u (h .marks) (h .accepted) (h .moments) (g .kept) place p e)
+-- F2: the packet that begins is one that waits, and goes first
+pub begins-first : (u : Fair) (h : Packets) → Good u h → First h (beginOf u .answer)
+begins-first u h g =
+    begin-cases u (λ d. First h (d .answer)) (λ r. tt)
+    (λ b place p e.
+    some-map _ _
+    (λ a t. (
+      t .0,
+      ap (λ (x : Facts). x .0) (t .1),
+      ap (λ (x : Facts). x .1) (t .1),
+      ap (λ (x : Facts). x .2) (t .1),
+      ap (λ (x : Facts). x .3) (t .1),
+      t .2,
+    )) (h .accepted)
+    (it-is-first isHeld placeFacts packetFacts factsKey freePacket (u .packets) (h .accepted) (waits h)
+    (packets-tied u (h .marks) (h .accepted) (h .moments) (g .kept)) place p
+    (lead u (h .marks) (h .accepted) (h .moments) (g .kept) place p e) alike alike-self alike-told))
 
 pub served-in-order : (u : Fair) (h : Packets) → Good u h → ServedInOrder u h
-served-in-order u h g =
-    record {
-      first = begin-cases u (λ d. First h (d .answer)) (λ r. tt) (λ b place p e. begun-first u h g place p e);
-      inOrder = g .paced .inOrder;
-      packetForPacket = g .kept .tied;
-    }
+served-in-order u h g = record { inOrder = g .paced .inOrder; packetForPacket = g .kept .tied }
 
 -- F3: the packet in service is the one last begun
 last-begun : (v : Service) (ps : List Packet) (ms : List Moment) → v .busy ≡ true → Serves v ps ms → LastBegun ms (Ended (v .flow) (v .number) (v .length))
@@ -81,15 +70,14 @@ last-begun v ps [] b s = true≢false (sym b ∙ s)
 last-begun v ps (began f n l x p ∷ ms) b s = (s .1, s .2, s .3)
 last-begun v ps (ceased f n l p x w ∷ ms) b s = true≢false (sym b ∙ s)
 
-pub ends-and-numbers : (u : Fair) (h : Packets) → Good u h → EndsAndNumbers u h
-ends-and-numbers u h g =
-    record {
-      ends =
-          end-cases u (λ d. LastBegun (h .moments) (d .answer)) (λ r. tt)
-          (λ b. last-begun (u .service) (h .accepted) (h .moments) b (g .kept .service));
-      numbered = g .paced .numbered;
-      fewNumbers = λ flow b. omega (arith, g .kept .next flow b, g .paced .few flow);
-    }
+pub ends-last : (u : Fair) (h : Packets) → Good u h → LastBegun (h .moments) (endOf u .answer)
+ends-last u h g =
+    end-cases u (λ d. LastBegun (h .moments) (d .answer)) (λ r. tt)
+    (λ b. last-begun (u .service) (h .accepted) (h .moments) b (g .kept .service))
+
+pub numbers-go-on : (u : Fair) (h : Packets) → Good u h → NumbersGoOn u h
+numbers-go-on u h g =
+    record { numbered = g .paced .numbered; fewNumbers = λ flow b. omega (arith, g .kept .next flow b, g .paced .few flow) }
 
 -- F4
 pub never-falls : (u : Fair) (h : Packets) → Good u h → NeverFalls u h
@@ -115,8 +103,8 @@ busy-told v ps [] s = s
 busy-told v ps (began f n l x p ∷ ms) s = s .0
 busy-told v ps (ceased f n l p x w ∷ ms) s = s
 
-pub refused-as-told : (u : Fair) (h : Packets) → Good u h → RefusedAsTold u h
-refused-as-told u h g =
+pub refused-as-noted : (u : Fair) (h : Packets) → Good u h → RefusedAsNoted u h
+refused-as-noted u h g =
     let k = g .kept in
     let busy = busy-told (u .service) (h .accepted) (h .moments) (k .service) in
     record {
@@ -141,19 +129,6 @@ refused-as-told u h g =
       beginning = refused-first u .beginning ∙ rw (busy, waiting-all u (h .marks) (h .accepted) (h .moments) k);
       ending = refused-first u .ending ∙ rw busy;
     }
-
--- ---- what an accepted offer is told
-pub offer-told : (u : Fair) (h : Packets) → Good u h → (flow length : ℕ) → refusalIn (offerOf u flow length .answer) ≡ none
-    → told (offerOf u flow length .answer) .values ≡ acceptedOf h flow ∷ startIn h flow ∷ finishTag h flow length ∷ []
-offer-told u h g flow length = go (offerOf u flow length .answer) (as-published u h g .tags flow length)
-  where
-    go : (a : Answer) → Tagged h flow length a → refusalIn a ≡ none → told a .values ≡ acceptedOf h flow ∷ startIn h flow ∷ finishTag h flow length ∷ []
-    go (Accepted n s f) t e = rw (t .0, t .1, t .2)
-    go (Refused r) t e = absurd (let z : _≡_ {A = ℕ} 0 1 = cc in omega arith)
-    go Opened t e = absurd t
-    go Closed t e = absurd t
-    go (Begun f n l s) t e = absurd t
-    go (Ended f n l) t e = absurd t
 
 -- ---- F4: one call more never takes virtual time back
 same-opening : (h : Packets) (flow weight : ℕ) (a : Answer) → noteOpening h flow weight a .moments ≡ h .moments

@@ -9,23 +9,26 @@ use native.Mathlib.Omega.{arith}
 use borrow.Author.Tests.{eqb-true, eqb-false, lt-ltb, le-ltb, ltb-true, ltb-false}
 use lib.Dec.{ltb, eqb}
 use lib.ListN.{length, set, length-set}
-use Rattle.units.specs.Limits.{tagLimit, badWeight}
+use Rattle.units.specs.Limits.{placeCount, tagLimit, badWeight}
 use Rattle.units.specs.declared.Tag.{Tag}
-use Rattle.places.specs.Places.{bit, count, countAt}
+use Rattle.places.specs.Places.{bit, count, countAt, flowOf}
+use Rattle.places.specs.Numbers.{ofFlow}
 use Rattle.places.specs.Marks.{Mark, opens, closes, openIn, inForce}
 use Rattle.places.proofs.CountAt.{at-same, at-count, own-places}
-use Rattle.places.proofs.Marks.{force-opened, force-closed, Told, told-opened, told-closed}
+use Rattle.places.proofs.Marks.{force-opened, force-closed, AsMarked, marked-opened, marked-closed}
 use Rattle.places.proofs.Stores.{set-keeps}
 use Rattle.places.proofs.Tests.{and-holds}
+use Rattle.places.proofs.Waiting.{Tied}
 use Rattle.tags.specs.declared.Flow.{Flow}
+use Rattle.tags.specs.declared.Packet.{Packet as Place}
 use Rattle.tags.specs.Tags.{isHeld, shutFlow}
 use Rattle.fair.specs.declared.Service.{Service}
 use Rattle.fair.specs.declared.Fair.{Fair}
 use Rattle.fair.specs.Lane.{flowAt, waitingOf, waiting, busyWith}
 use Rattle.fair.specs.Calls.{withFlow, opened, closed}
-use Rattle.promises_fair.specs.Packets.{Packet, Moment, began, ceased, lastFinish, finishIn, wasBegun, serving, largestEnded, virtualTime}
-use Rattle.promises_fair.specs.Promised.{Question, holds, begunOf, InOrder, Numbered}
-use Rattle.promises_fair.proofs.Numbers.{ofFlow, Rising}
+use Rattle.promises_fair.specs.Packets.{Packet, itsFlow, Moment, began, ceased, lastFinish, finishIn, wasBegun, serving, largestEnded, virtualTime}
+use Rattle.promises_fair.specs.Promised.{Question, holds, begunOf, InOrder, PacketsNumbered}
+use Rattle.promises_fair.proofs.Numbers.{Rising}
 
 -- a packet is not begun
 abbrev pub notBegun : List Moment → Packet → Bool
@@ -58,26 +61,44 @@ pub record Kept (u : Fair) (marks : List Mark) (ps : List Packet) (ms : List Mom
   pub openFlows : (f : ℕ) → f < 16 → flowAt u f .opened ≡ openIn marks f
   pub weights : (f : ℕ) → f < 16 → flowAt u f .weight ≡ inForce marks f
   pub fit : (f : ℕ) → openIn marks f ≡ true → badWeight (inForce marks f) ≡ false
-  pub next : (f : ℕ) → f < 16 → flowAt u f .next ≡ ofFlow f ps
+  pub next : (f : ℕ) → f < 16 → flowAt u f .next ≡ ofFlow itsFlow f ps
   pub finishes : (f : ℕ) → f < 16 → flowAt u f .finish .0 ≡ lastFinish ps f
   pub tied : (ask : Question) → countAt (holds ask) 0 (u .packets) ≡ asked ps ms ask
   pub time : u .time .0 ≡ virtualTime ms
   pub largest : u .largest .0 ≡ largestEnded ms
   pub service : Serves (u .service) ps ms
 
+-- what can be asked of a packet: of one that holds a place, and of one that was accepted
+abbrev pub Facts : Type 0
+Facts = ℕ × ℕ × ℕ × ℕ × ℕ
+
+abbrev pub placeFacts : ℕ → Place → Facts
+placeFacts place p = (flowOf placeCount place, p .number, p .length, p .start .0, p .finish .0)
+
+abbrev pub packetFacts : Packet → Facts
+packetFacts a = (a .flow, a .number, a .length, a .start, a .finish)
+
+abbrev pub asking : Question → Facts → Bool
+asking ask x = ask (x .0) (x .1) (x .2) (x .3) (x .4)
+
+-- so the waiting packets are tied to the held places
+pub packets-tied : (u : Fair) (marks : List Mark) (ps : List Packet) (ms : List Moment) → Kept u marks ps ms
+    → Tied isHeld placeFacts packetFacts (u .packets) ps (notBegun ms)
+packets-tied u marks ps ms k ask = k .tied (λ f n l s e. ask (f, n, l, s, e))
+
 -- a packet in service is accepted, and finishes no earlier than it starts
 abbrev pub InHand : List Packet → List Moment → Type 0
 InHand ps [] = Unit {0}
-InHand ps (began f n l s p ∷ ms) = (n < ofFlow f ps) × (s ≤ finishIn ps f n)
+InHand ps (began f n l s p ∷ ms) = (n < ofFlow itsFlow f ps) × (s ≤ finishIn ps f n)
 InHand ps (ceased f n l p e w ∷ ms) = Unit {0}
 
 -- and what they tell is in order
 pub record Paced (ps : List Packet) (ms : List Moment) : Type 0 where
-  pub few : (f : ℕ) → ofFlow f ps ≤ suc tagLimit
-  pub numbered : Numbered ps
+  pub few : (f : ℕ) → ofFlow itsFlow f ps ≤ suc tagLimit
+  pub numbered : PacketsNumbered ps
   pub rising : Rising ps
   pub inOrder : InOrder ms
-  pub begun : (f : ℕ) → begunOf ms f ≤ ofFlow f ps
+  pub begun : (f : ℕ) → begunOf ms f ≤ ofFlow itsFlow f ps
   pub inHand : InHand ps ms
   pub onTime : asked ps ms (λ f n l s e. ltb s (virtualTime ms)) ≡ 0
 
@@ -115,14 +136,14 @@ module _ (u : Fair) (marks : List Mark) (ps : List Packet) (ms : List Moment) (k
     low : flow < length (u .flows)
     low = omega (arith, k .sixteen)
 
-    abbrev FlowsTold : List Flow → List Mark → Type 0
-    FlowsTold = Told (λ (x : Flow). x .opened) (λ (x : Flow). x .weight) shutFlow 16
+    abbrev FlowsAsMarked : List Flow → List Mark → Type 0
+    FlowsAsMarked = AsMarked (λ (x : Flow). x .opened) (λ (x : Flow). x .weight) shutFlow 16
 
-    told : FlowsTold (u .flows) marks
-    told f b = (k .openFlows f b, k .weights f b)
+    as-marked : FlowsAsMarked (u .flows) marks
+    as-marked f b = (k .openFlows f b, k .weights f b)
 
     kept-marked : (x : Flow) (mark : Mark) → x .next ≡ flowAt u flow .next → x .finish ≡ flowAt u flow .finish
-        → FlowsTold (set (u .flows) flow x) (mark ∷ marks)
+        → FlowsAsMarked (set (u .flows) flow x) (mark ∷ marks)
         → ((f : ℕ) → openIn (mark ∷ marks) f ≡ true → badWeight (inForce (mark ∷ marks) f) ≡ false) → Kept (withFlow u flow x) (mark ∷ marks) ps ms
     kept-marked x mark next finish t fit =
         record {
@@ -142,11 +163,11 @@ module _ (u : Fair) (marks : List Mark) (ps : List Packet) (ms : List Moment) (k
     pub kept-open : (weight : ℕ) → badWeight weight ≡ false → Kept (opened u flow weight .lane) (opens flow weight ∷ marks) ps ms
     kept-open weight good =
         kept-marked _ (opens flow weight) refl refl
-        (told-opened (λ (x : Flow). x .opened) (λ (x : Flow). x .weight) shutFlow 16 (u .flows) marks told flow _ low refl)
+        (marked-opened (λ (x : Flow). x .opened) (λ (x : Flow). x .weight) shutFlow 16 (u .flows) marks as-marked flow _ low refl)
         (force-opened (λ n. badWeight n ≡ false) marks (k .fit) flow weight good)
 
     pub kept-close : Kept (closed u flow .lane) (closes flow ∷ marks) ps ms
     kept-close =
         kept-marked _ (closes flow) refl refl
-        (told-closed (λ (x : Flow). x .opened) (λ (x : Flow). x .weight) shutFlow 16 (u .flows) marks told flow _ low refl (k .weights flow (omega arith)))
+        (marked-closed (λ (x : Flow). x .opened) (λ (x : Flow). x .weight) shutFlow 16 (u .flows) marks as-marked flow _ low refl (k .weights flow (omega arith)))
         (force-closed (λ n. badWeight n ≡ false) marks (k .fit) flow)

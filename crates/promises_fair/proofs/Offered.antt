@@ -13,10 +13,11 @@ use Rattle.units.specs.Limits.{placeCount, tagLimit, badLength}
 use Rattle.units.specs.Charges.{chargeOf}
 use Rattle.units.proofs.Limits.{inside}
 use Rattle.units.proofs.Charges.{charge-least}
-use Rattle.places.specs.Places.{bit, count, countAt, placesOf, firstFree}
+use Rattle.places.specs.Places.{bit, count, placesOf, firstFree}
+use Rattle.places.specs.Numbers.{ofFlow}
 use Rattle.places.specs.Marks.{Mark, openIn, inForce}
-use Rattle.places.proofs.Tests.{and-holds}
-use Rattle.places.proofs.Stores.{set-cases, at-more, free-low, free-flow, free-unheld}
+use Rattle.places.proofs.Coming.{tied-come}
+use Rattle.places.proofs.Stores.{set-cases}
 use Rattle.tags.specs.declared.Flow.{Flow}
 use Rattle.tags.specs.declared.Packet.{Packet as Place}
 use Rattle.tags.specs.Tags.{freePacket, isHeld, shutFlow, finishAt}
@@ -25,10 +26,10 @@ use Rattle.fair.specs.declared.Service.{Service}
 use Rattle.fair.specs.declared.Fair.{Fair}
 use Rattle.fair.specs.Lane.{flowAt, waitingOf, startOf, finishTag}
 use Rattle.fair.specs.Calls.{accepted}
-use Rattle.promises_fair.specs.Packets.{Packet, Moment, began, ceased, lastFinish, virtualTime}
-use Rattle.promises_fair.specs.Promised.{Question, holds, begunOf, Numbered}
-use Rattle.promises_fair.proofs.Numbers.{ofFlow, finish-stays}
-use Rattle.promises_fair.proofs.Kept.{notBegun, asks, Serves, Kept, InHand, Paced, begun-below}
+use Rattle.promises_fair.specs.Packets.{Packet, itsFlow, Moment, began, ceased, lastFinish, virtualTime}
+use Rattle.promises_fair.specs.Promised.{begunOf, PacketsNumbered}
+use Rattle.promises_fair.proofs.Numbers.{finish-stays}
+use Rattle.promises_fair.proofs.Kept.{notBegun, Serves, Kept, placeFacts, packetFacts, asking, packets-tied, InHand, Paced, begun-below}
 
 -- what a packet's tags are
 module _ (u : Fair) (marks : List Mark) (ps : List Packet) (ms : List Moment) (k : Kept u marks ps ms) (flow : ℕ) (low : flow ≤ 15) where
@@ -52,7 +53,7 @@ offered u marks flow bytes =
     }
 
 -- a packet with the flow's next number leaves the packet in service as it is
-module _ (a : Packet) (ps : List Packet) (k : Numbered (a ∷ ps)) where
+module _ (a : Packet) (ps : List Packet) (k : PacketsNumbered (a ∷ ps)) where
   serves-more : (v : Service) (ms : List Moment) → InHand ps ms → Serves v ps ms → Serves v (a ∷ ps) ms
   serves-more v [] h s = s
   serves-more v (began f n l b p ∷ ms) h s = (s .0, s .1, s .2, s .3, s .4 ∙ sym (finish-stays f n a ps k (h .0)))
@@ -81,7 +82,7 @@ module _
   new : Packet
   new = offered u marks flow bytes
 
-  numbered : Numbered (new ∷ ps)
+  numbered : PacketsNumbered (new ∷ ps)
   unfolding new
   numbered = (k .next flow (omega arith), t .numbered)
 
@@ -113,7 +114,7 @@ module _
         onTime = rw (le-ltb (startOf u flow .0) (virtualTime ms) (omega (arith, start))) (omega (arith, t .onTime));
       }
     where
-      go : (f : ℕ) (b : Bool) → eqb flow f ≡ b → bit b + ofFlow f ps ≤ suc tagLimit
+      go : (f : ℕ) (b : Bool) → eqb flow f ≡ b → bit b + ofFlow itsFlow f ps ≤ suc tagLimit
       go f true p = rw (← eqb-true flow f p) (omega (arith, k .next flow (omega arith)))
       go f false p = omega (arith, t .few f)
 
@@ -124,19 +125,6 @@ module _
   taken : Place
   taken = record { held = true; number = flowAt u flow .next; length = bytes; start = startOf u flow; finish = finishTag u flow bytes }
 
-  place-low : place < length (u .packets)
-  unfolding place
-  place-low = free-low isHeld freePacket (u .packets) 16 flow (omega (arith, k .long)) room
-
-  -- one packet more is held
-  set-in : (ask : Question) → countAt (holds ask) 0 (set (u .packets) place taken)
-      ≡ bit (asks ask new) + countAt (holds ask) 0 (u .packets)
-  unfolding place taken new
-  set-in ask =
-      at-more (u .packets) place taken freePacket place-low (holds ask)
-      (rw (free-unheld isHeld freePacket (u .packets) 16 flow (omega (arith, k .long)) room))
-      ∙ rw (free-flow isHeld freePacket (u .packets) 16 flow (omega (arith, k .long)) room)
-
   -- the flow's record then
   after : Flow
   after = record { opened = true; weight = flowAt u flow .weight; next = flowAt u flow .next + 1; finish = finishTag u flow bytes }
@@ -145,7 +133,7 @@ module _
   AfterAs f x =
       (x .opened ≡ openIn marks f)
       × (x .weight ≡ inForce marks f)
-      × (x .next ≡ bit (eqb flow f) + ofFlow f ps)
+      × (x .next ≡ bit (eqb flow f) + ofFlow itsFlow f ps)
       × (x .finish .0 ≡ cond (eqb flow f) (new .finish) (lastFinish ps f))
 
   offer-flow : (f : ℕ) → f < 16 → AfterAs f (getD (set (u .flows) flow after) f shutFlow)
@@ -167,7 +155,9 @@ module _
         next = λ f b. offer-flow f b .2;
         finishes = λ f b. offer-flow f b .3;
         tied = λ ask.
-            omega (arith, set-in ask, k .tied ask, ap bit (and-holds (asks ask new) (notBegun ms new) new-waits));
+            tied-come isHeld placeFacts packetFacts freePacket (u .packets) ps (notBegun ms) (packets-tied u marks ps ms k) placeCount flow (omega (arith, k .long)) room
+            taken new refl new-waits
+            (λ at e. ap (λ (f : ℕ). (f, flowAt u flow .next, bytes, startOf u flow .0, finishAt (startOf u flow) bytes (flowAt u flow .weight))) e) (asking ask);
         time = k .time;
         largest = k .largest;
         service = serves-more new ps numbered (u .service) ms (t .inHand) (k .service);

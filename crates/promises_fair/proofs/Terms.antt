@@ -12,7 +12,7 @@ use Rattle.places.specs.Marks.{opens, closes, openIn}
 use Rattle.places.proofs.Marks.{stands-opened, stands-closed, stands-fewer}
 use Rattle.places.proofs.Members.{none-passes, each-map}
 use Rattle.places.proofs.Tests.{and-told}
-use Rattle.promises_fair.specs.Packets.{Packet, Moment, began, ceased, Packets, wasBegun, serving, isServed}
+use Rattle.promises_fair.specs.Packets.{Packet, itsFlow, Moment, began, ceased, Packets, wasBegun, serving, isServed}
 use Rattle.promises_fair.specs.Notes.{marked}
 use Rattle.promises_fair.specs.Promised.{TermsStand}
 use Rattle.promises_fair.specs.Refused.{waitingIn}
@@ -21,9 +21,6 @@ use Rattle.promises_fair.proofs.Kept.{notBegun}
 -- a packet waits or is in service, and its terms, as the marks' laws have them
 abbrev isLive : List Moment → Packet → Bool
 isLive ms a = notBegun ms a || isServed ms a
-
-abbrev itsFlow : Packet → ℕ
-itsFlow a = a .flow
 
 abbrev ByWeight : Packet → ℕ → Type 0
 ByWeight a weight = a .charge ≡ chargeOf weight

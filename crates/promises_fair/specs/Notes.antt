@@ -1,4 +1,4 @@
--- What each call of the fair lane and its answer add to what is told of the packets.
+-- What each call of the fair lane and its answer add to what is noted of the packets.
 use mathlib.Core.List.{_∷_}
 use Prim.Native.Nat.{ℕ, suc}
 use Rattle.units.specs.Charges.{chargeOf}
@@ -7,7 +7,7 @@ use Rattle.fair.specs.declared.Answer.{Answer}
 use Rattle.fair.specs.declared.Answer.the-variants.{Refused, Opened, Closed, Accepted, Begun, Ended}
 use Rattle.promises_fair.specs.Packets.{began, ceased, Packets, weightIn, finishIn, waitingAll}
 
--- a call that changed nothing
+-- a call that tells nothing of the packets: it is counted
 abbrev pub noteOther : Packets → Packets
 noteOther h = record { calls = suc (h .calls); marks = h .marks; accepted = h .accepted; moments = h .moments }
 

@@ -5,6 +5,7 @@ use Prim.Native.Nat.{ℕ, max}
 use lib.Dec.{eqb}
 use Rattle.places.specs.Places.{count}
 use Rattle.places.specs.Marks.{Mark, inForce}
+use Rattle.places.specs.Numbers.{isThis}
 
 -- an accepted packet: its flow, its number, start and finish tags as answered, its length, and the charge of the weight then in force
 pub record Packet : Type 0 where
@@ -14,6 +15,17 @@ pub record Packet : Type 0 where
   pub finish : ℕ
   pub length : ℕ
   pub charge : ℕ
+
+-- a packet is known by its flow and its number
+abbrev pub itsFlow : Packet → ℕ
+itsFlow a = a .flow
+
+abbrev pub itsNumber : Packet → ℕ
+itsNumber a = a .number
+
+-- the packet of this flow and number
+abbrev pub isPacket : ℕ → ℕ → Packet → Bool
+isPacket flow number a = isThis itsFlow itsNumber flow number a
 
 -- what happened to the service: a packet was begun, as the begin answered, or ended, as the end answered; with the position of the
 -- call in the list of calls, from 0, and for an end the finish tag of the packet as it was accepted and how many accepted packets were not
@@ -34,7 +46,7 @@ pub record Packets : Type 0 where
 abbrev pub noPackets : Packets
 noPackets = record { calls = 0; marks = []; accepted = []; moments = [] }
 
--- the weight in force: that of the flow's newest opening
+-- the weight in force: that of the flow's newest opening, 0 before any
 abbrev pub weightIn : Packets → ℕ → ℕ
 weightIn h flow = inForce (h .marks) flow
 
@@ -43,10 +55,10 @@ unfoldable pub lastFinish : List Packet → ℕ → ℕ
 lastFinish [] flow = 0
 lastFinish (a ∷ rest) flow = cond (eqb (a .flow) flow) (a .finish) (lastFinish rest flow)
 
--- the finish tag of the accepted packet of this flow and number
+-- the finish tag of the accepted packet of this flow and number, 0 where there is none
 unfoldable pub finishIn : List Packet → ℕ → ℕ → ℕ
 finishIn [] flow number = 0
-finishIn (a ∷ rest) flow number = cond (eqb (a .flow) flow && eqb (a .number) number) (a .finish) (finishIn rest flow number)
+finishIn (a ∷ rest) flow number = cond (isPacket flow number a) (a .finish) (finishIn rest flow number)
 
 -- the packet was begun: it is known by its flow and its number
 unfoldable pub wasBegun : List Moment → ℕ → ℕ → Bool

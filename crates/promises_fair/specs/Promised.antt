@@ -1,4 +1,4 @@
--- The promises of the fair lane, each as a statement about a lane and what the calls and answers so far tell of its packets.
+-- The promises of the fair lane, each as a statement about a lane, what the calls and answers so far tell of its packets, or both.
 use mathlib.Core.Path.{_≡_}
 use mathlib.Core.Bool.{Bool, true, false, _&&_, _||_}
 use mathlib.Core.List.{List, [], _∷_}
@@ -8,6 +8,7 @@ use Rattle.units.specs.Limits.{placeCount, tagLimit}
 use Rattle.units.specs.Charges.{chargeOf}
 use Rattle.places.specs.Members.{Each, Some}
 use Rattle.places.specs.Marks.{openIn}
+use Rattle.places.specs.Numbers.{ofFlow, Numbered}
 use Rattle.places.specs.Places.{bit, count, countAt, flowOf}
 use Rattle.places.specs.Choice.{Key, comesBefore}
 use Rattle.tags.specs.declared.Packet.{Packet as Place}
@@ -15,13 +16,13 @@ use Rattle.fair.specs.declared.Fair.{Fair}
 use Rattle.fair.specs.declared.Answer.{Answer}
 use Rattle.fair.specs.declared.Answer.the-variants.{Refused, Opened, Closed, Accepted, Begun, Ended}
 use Rattle.fair.specs.Lane.{flowAt}
-use Rattle.fair.specs.Calls.{offerOf, beginOf, endOf}
-use Rattle.promises_fair.specs.Packets.{Packet, Moment, began, ceased, Packets, weightIn, lastFinish, waits, isServed, virtualTime}
+use Rattle.fair.specs.Calls.{beginOf, endOf}
+use Rattle.promises_fair.specs.Packets.{Packet, itsFlow, itsNumber, Moment, began, ceased, Packets, weightIn, lastFinish, waits, isServed, virtualTime}
 use Rattle.promises_fair.specs.Notes.{noteService}
 
 -- how many packets of a flow were accepted
 abbrev pub acceptedOf : Packets → ℕ → ℕ
-acceptedOf h flow = count (λ (a : Packet). eqb (a .flow) flow) (h .accepted)
+acceptedOf h flow = ofFlow itsFlow flow (h .accepted)
 
 -- a packet offered now: its start tag is the larger of virtual time and the finish of its flow's packet before it, 0 at first
 abbrev pub startIn : Packets → ℕ → ℕ
@@ -31,24 +32,11 @@ startIn h flow = max (virtualTime (h .moments)) (lastFinish (h .accepted) flow)
 abbrev pub finishTag : Packets → ℕ → ℕ → ℕ
 finishTag h flow length = startIn h flow + length * chargeOf (weightIn h flow)
 
--- F1: the state's virtual time is the published one, and a packet that is accepted is answered the published tags.
-abbrev pub Tagged : Packets → ℕ → ℕ → Answer → Type 0
-Tagged h flow length (Accepted number start finish) =
-    (number ≡ acceptedOf h flow) × (start .0 ≡ startIn h flow) × (finish .0 ≡ finishTag h flow length)
-Tagged h flow length (Refused r) = Unit {0}
-Tagged h flow length Opened = ⊥
-Tagged h flow length Closed = ⊥
-Tagged h flow length (Begun f n l s) = ⊥
-Tagged h flow length (Ended f n l) = ⊥
-
-pub record AsPublished (u : Fair) (h : Packets) : Type 0 where
-  pub time : u .time .0 ≡ virtualTime (h .moments)
-  pub tags : (flow length : ℕ) → Tagged h flow length (offerOf u flow length .answer)
-
 -- a question about a packet: its flow, its number, its length and its tags
 abbrev pub Question : Type 0
 Question = (flow number length start finish : ℕ) → Bool
 
+-- a place is held, and by a packet of which the answer is yes
 abbrev pub holds : Question → ℕ → Place → Bool
 holds ask place p = p .held && ask (flowOf placeCount place) (p .number) (p .length) (p .start .0) (p .finish .0)
 
@@ -56,8 +44,8 @@ holds ask place p = p .held && ask (flowOf placeCount place) (p .number) (p .len
 abbrev pub packetKey : Packet → Key
 packetKey a = record { rank = a .start; flow = a .flow; number = a .number }
 
--- F2: begin takes a packet accepted and not begun, answers its flow, number, length and start tag as at its acceptance, and no such
--- packet comes before it by start tag, flow and number.
+-- F2: a begin that is not refused answers flow, number, length and start tag of a packet accepted and not begun, and no such packet
+-- comes before it by start tag, flow and number.
 abbrev pub First : Packets → Answer → Type 0
 First h (Begun flow number length start) =
     Some
@@ -87,17 +75,16 @@ InOrder [] = Unit {0}
 InOrder (began f n l s p ∷ ms) = (n ≡ begunOf ms f) × InOrder ms
 InOrder (ceased f n l p e w ∷ ms) = InOrder ms
 
--- F2: the places held are, packet for packet, those accepted and not begun: whatever is asked of a packet, as many places as waiting
--- packets answer to it.
+-- F2: each flow's packets were begun in the order of their numbers; and the places held are, packet for packet, those accepted and not
+-- begun: whatever is asked of a packet's flow, number, length and tags, as many places as waiting packets answer to it.
 pub record ServedInOrder (u : Fair) (h : Packets) : Type 0 where
-  pub first : First h (beginOf u .answer)
   pub inOrder : InOrder (h .moments)
   pub packetForPacket :
       (ask : Question)
       → countAt (holds ask) 0 (u .packets)
       ≡ count (λ (a : Packet). ask (a .flow) (a .number) (a .length) (a .start) (a .finish) && waits h a) (h .accepted)
 
--- F3: end answers flow, number and length of the packet last begun.
+-- F3: an end that is not refused answers flow, number and length of the packet last begun, which has not ended.
 abbrev pub LastBegun : List Moment → Answer → Type 0
 LastBegun (began f n l s p ∷ ms) (Ended flow number length) = (flow ≡ f) × (number ≡ n) × (length ≡ l)
 LastBegun (ceased f n l p e w ∷ ms) (Ended flow number length) = ⊥
@@ -108,15 +95,13 @@ LastBegun ms Closed = ⊥
 LastBegun ms (Accepted n s f) = ⊥
 LastBegun ms (Begun f n l s) = ⊥
 
--- F3: a flow's packets are numbered from 0
-abbrev pub Numbered : List Packet → Type 0
-Numbered [] = Unit {0}
-Numbered (a ∷ rest) = (a .number ≡ count (λ (b : Packet). eqb (b .flow) (a .flow)) rest) × Numbered rest
+-- F3: each accepted packet's number, as answered, is how many of its flow were accepted before it.
+abbrev pub PacketsNumbered : List Packet → Type 0
+PacketsNumbered packets = Numbered itsFlow itsNumber packets
 
-pub record EndsAndNumbers (u : Fair) (h : Packets) : Type 0 where
-  pub ends : LastBegun (h .moments) (endOf u .answer)
-  pub numbered : Numbered (h .accepted)
-  -- and no number comes near the end of its type
+-- F3: and no flow's next number comes near the end of its type, since no number passes the largest tag.
+pub record NumbersGoOn (u : Fair) (h : Packets) : Type 0 where
+  pub numbered : PacketsNumbered (h .accepted)
   pub fewNumbers : (flow : ℕ) → flow < 16 → flowAt u flow .next ≤ suc tagLimit
 
 -- F4, one step of it: neither the next begin nor the next end takes virtual time back.

@@ -20,19 +20,19 @@ abbrev pub waitingIn : Packets → ℕ → ℕ
 waitingIn h flow = count (λ (a : Packet). eqb (a .flow) flow && waits h a) (h .accepted)
 
 -- open: opened and not closed since; waiting: accepted and not begun; in service: a begin answered and no end since
-abbrev pub openingTold : Packets → ℕ → ℕ → List Ground
-openingTold h flow weight =
+abbrev pub openingNoted : Packets → ℕ → ℕ → List Ground
+openingNoted h flow weight =
     (NoSuchFlow, noSuchFlow flow) ∷ (AlreadyOpen, openIn (h .marks) flow) ∷ (BadWeight, badWeight weight) ∷ []
 
-abbrev pub closingTold : Packets → ℕ → List Ground
-closingTold h flow =
+abbrev pub closingNoted : Packets → ℕ → List Ground
+closingNoted h flow =
     (NoSuchFlow, noSuchFlow flow)
     ∷ (NotOpen, not (openIn (h .marks) flow))
     ∷ (FlowInUse, ltb 0 (waitingIn h flow) || serving (h .moments) flow)
     ∷ []
 
-abbrev pub offeringTold : Packets → ℕ → ℕ → List Ground
-offeringTold h flow length =
+abbrev pub offeringNoted : Packets → ℕ → ℕ → List Ground
+offeringNoted h flow length =
     (NoSuchFlow, noSuchFlow flow)
     ∷ (NotOpen, not (openIn (h .marks) flow))
     ∷ (BadLength, badLength length)
@@ -40,16 +40,16 @@ offeringTold h flow length =
     ∷ (TagsUsedUp, ltb tagLimit (finishTag h flow length) || ltb tagLimit (acceptedOf h flow))
     ∷ []
 
-abbrev pub beginTold : Packets → List Ground
-beginTold h = (PacketInService, inService (h .moments)) ∷ (NothingWaits, eqb (waitingAll h) 0) ∷ []
+abbrev pub beginNoted : Packets → List Ground
+beginNoted h = (PacketInService, inService (h .moments)) ∷ (NothingWaits, eqb (waitingAll h) 0) ∷ []
 
-abbrev pub endTold : Packets → List Ground
-endTold h = (NothingInService, not (inService (h .moments))) ∷ []
+abbrev pub endNoted : Packets → List Ground
+endNoted h = (NothingInService, not (inService (h .moments))) ∷ []
 
 -- S4: each call is refused exactly as the calls and answers so far tell.
-pub record RefusedAsTold (u : Fair) (h : Packets) : Type 0 where
-  pub opening : (flow weight : ℕ) → refusalIn (openOf u flow weight .answer) ≡ firstOf (openingTold h flow weight)
-  pub closing : (flow : ℕ) → refusalIn (closeOf u flow .answer) ≡ firstOf (closingTold h flow)
-  pub offering : (flow length : ℕ) → refusalIn (offerOf u flow length .answer) ≡ firstOf (offeringTold h flow length)
-  pub beginning : refusalIn (beginOf u .answer) ≡ firstOf (beginTold h)
-  pub ending : refusalIn (endOf u .answer) ≡ firstOf (endTold h)
+pub record RefusedAsNoted (u : Fair) (h : Packets) : Type 0 where
+  pub opening : (flow weight : ℕ) → refusalIn (openOf u flow weight .answer) ≡ firstOf (openingNoted h flow weight)
+  pub closing : (flow : ℕ) → refusalIn (closeOf u flow .answer) ≡ firstOf (closingNoted h flow)
+  pub offering : (flow length : ℕ) → refusalIn (offerOf u flow length .answer) ≡ firstOf (offeringNoted h flow length)
+  pub beginning : refusalIn (beginOf u .answer) ≡ firstOf (beginNoted h)
+  pub ending : refusalIn (endOf u .answer) ≡ firstOf (endNoted h)

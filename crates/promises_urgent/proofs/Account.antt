@@ -1,34 +1,36 @@
 -- What the kept invariant says of the account: U1 and S4, and what an open turn's choice is among the waiting cells (U2).
-use mathlib.Core.Path.{_≡_, refl, sym, _∙_, subst}
-use mathlib.Core.Bool.{Bool, true, false, not, cond, _&&_, false≢true}
+use mathlib.Core.Path.{_≡_, refl, sym, ap, _∙_}
+use mathlib.Core.Bool.{Bool, true, false, not, cond, _&&_}
 use mathlib.Core.List.{[], _∷_}
 use mathlib.Core.Option.{none, some}
 use Prim.Native.Nat.{ℕ, _+_, _<_}
 use native.Mathlib.Omega.{arith}
-use borrow.Author.Tests.{eqb-true, eq-eqb, leb-true, leb-false, lt-ltb, le-ltb}
+use borrow.Author.Tests.{eqb-true, leb-true, leb-false, lt-ltb, le-ltb}
 use lib.Dec.{leb, ltb, eqb}
-use lib.ListN.{getD, set}
+use lib.ListN.{set}
 use Rattle.units.specs.Limits.{placeCount, slotLimit}
-use Rattle.units.specs.Refusals.{firstOf}
-use Rattle.units.proofs.Refusals.{after-flow}
+use Rattle.units.specs.Refusals.{firstOf, unless}
+use Rattle.units.proofs.Refusals.{after-flow, none-is-none}
 use Rattle.units.specs.declared.Refusal.the-variants.{SlotsUsedUp}
 use Rattle.places.specs.Places.{bit, count, flowOf}
-use Rattle.places.specs.Choice.{comesBefore, Choice, nothing, at, leastHeld, Leads}
+use Rattle.places.specs.Choice.{Key, Choice, nothing, at, leastHeld}
 use Rattle.places.proofs.Count.{count-add, bit-split}
-use Rattle.places.proofs.CountAt.{at-none, at-here}
+use Rattle.places.proofs.Least.{leads}
+use Rattle.places.proofs.Leading.{none-waits, it-is-first}
+use Rattle.places.proofs.Tests.{and-told, eqb-self}
 use Rattle.urgent.specs.declared.Cell.{Cell as Place}
 use Rattle.urgent.specs.declared.Urgent.{Urgent}
 use Rattle.urgent.specs.declared.Answer.the-variants.{Sent}
 use Rattle.urgent.specs.Lane.{freeCell, isHeld, keyOf, lastIs, waitingOf}
 use Rattle.urgent.specs.Answers.{told, refusalIn}
 use Rattle.urgent.proofs.Cases.{offer-cases}
-use Rattle.urgent.specs.Calls.{offerOf, unless, chosen, turned, turnOf}
-use Rattle.urgent.proofs.Laws.{sends-first, refused-first}
+use Rattle.urgent.specs.Calls.{refused, offerOf, chosen, turned, turnOf}
+use Rattle.urgent.proofs.Laws.{refused-first}
 use Rattle.promises_urgent.specs.Cells.{Cell, Cells, wasSent, waits, isMissed}
-use Rattle.promises_urgent.specs.Promised.{Question, holds, acceptedOf, lastIn, sentOf, missedOf, cellKey, Earliest, SendsEarliest, FewNumbers}
-use Rattle.promises_urgent.specs.Refused.{RefusedAsTold}
-use Rattle.places.proofs.Members.{none-passes, some-passes, each-map, some-map}
-use Rattle.promises_urgent.proofs.Kept.{Kept, Few, waiting-told, waiting-most}
+use Rattle.promises_urgent.specs.Promised.{Question, acceptedOf, lastIn, sentOf, missedOf, Earliest, FewNumbers}
+use Rattle.promises_urgent.specs.Refused.{RefusedAsNoted}
+use Rattle.places.proofs.Members.{none-passes, some-map}
+use Rattle.promises_urgent.proofs.Kept.{Kept, Facts, placeFacts, cellFacts, asking, cells-tied, Few, waiting-told, waiting-most}
 
 -- ---- U1
 module _ (u : Urgent) (h : Cells) (k : Kept u h) where
@@ -57,12 +59,12 @@ module _ (u : Urgent) (h : Cells) (k : Kept u h) where
         waiting-told u h k flow b,
       )
 
-  pub few-numbers : Few h → FewNumbers u h
-  few-numbers few flow b = omega (arith, few flow b, k .next flow b, waiting-most u h k flow b)
+  pub few-numbers : Few h → FewNumbers u
+  few-numbers few flow b = omega (arith, few flow b, k .next flow b, k .within, waiting-most u h k flow b)
 
 -- ---- S4
-pub refused-as-told : (u : Urgent) (h : Cells) → Kept u h → RefusedAsTold u h
-refused-as-told u h k =
+pub refused-as-noted : (u : Urgent) (h : Cells) → Kept u h → RefusedAsNoted u h
+refused-as-noted u h k =
     record {
       opening = λ flow deadline. refused-first u .opening flow deadline ∙ after-flow flow _ _ (λ l. rw (k .openFlows flow (omega arith)));
       closing = λ flow.
@@ -79,92 +81,46 @@ pub offer-told : (u : Urgent) (h : Cells) → Kept u h → (flow : ℕ) → refu
     → told (offerOf u flow .answer) .values ≡ acceptedOf h flow ∷ lastIn h flow ∷ []
 offer-told u h k flow =
     offer-cases u (λ d. refusalIn (d .answer) ≡ none → told (d .answer) .values ≡ acceptedOf h flow ∷ lastIn h flow ∷ [])
-    (λ r e. absurd (let z : _≡_ {A = ℕ} 0 1 = cc in omega arith)) flow
+    (λ r e. absurd (none-is-none r (sym e))) flow
     (λ l o w e. rw (k .next flow (omega arith), k .time, k .deadlines flow (omega arith)))
 
 -- ---- U2: what an open turn finds among the waiting cells
+abbrev pub factsKey : Facts → Key
+factsKey x = record { rank = x .2; flow = x .0; number = x .1 }
+
+-- two cells are alike in flow, number and last slot
+abbrev alike : Facts → Facts → Bool
+alike x y = eqb (x .0) (y .0) && (eqb (x .1) (y .1) && eqb (x .2) (y .2))
+
+alike-self : (x : Facts) → alike x x ≡ true
+alike-self x = rw (eqb-self (x .0), eqb-self (x .1), eqb-self (x .2))
+
+alike-told : (x y : Facts) → alike x y ≡ true → x ≡ y
+alike-told x y e =
+    let f = and-told (eqb (x .0) (y .0)) _ e in
+    let n = and-told (eqb (x .1) (y .1)) _ (f .1) in
+    λ i. (eqb-true (x .0) (y .0) (f .0) i, eqb-true (x .1) (y .1) (n .0) i, eqb-true (x .2) (y .2) (n .1) i)
+
 module _ (u : Urgent) (h : Cells) (k : Kept u h) where
   -- where no place is held, no cell waits
   pub none-wait : chosen u true ≡ nothing → (ask : Question) → count (λ (a : Cell). ask (a .flow) (a .number) (a .last) && waits h a) (h .accepted) ≡ 0
-  none-wait e ask = sym (k .tied ask) ∙ at-none (holds ask) freeCell 0 (u .cells) (λ i l. go i (getD (u .cells) i freeCell .held) refl)
-    where
-      free : (i : ℕ) → getD (u .cells) i freeCell .held ≡ true → ⊥
-      free = rw e at (sends-first u)
+  none-wait e ask =
+      none-waits isHeld placeFacts cellFacts factsKey freeCell (u .cells) (h .accepted) (waits h) (cells-tied u h k)
+      (rw e at (leads isHeld keyOf freeCell refl (u .cells))) (asking ask)
 
-      go : (i : ℕ) (t : Bool) → getD (u .cells) i freeCell .held ≡ t
-          → (t && ask (flowOf placeCount (0 + i)) (getD (u .cells) i freeCell .number) (getD (u .cells) i freeCell .last .0)) ≡ false
-      go i true p = absurd (free i p)
-      go i false p = refl
+  -- the cell that is sent is one that waits, and goes first
+  sent-first : (place : ℕ) (c : Place) → chosen u true ≡ at place c → (missed : ℕ) → Earliest h (Sent (flowOf placeCount place) (c .number) missed)
+  sent-first place c e missed =
+      some-map _ _ (λ a t. (t .0, ap (λ (x : Facts). x .0) (t .1), ap (λ (x : Facts). x .1) (t .1), t .2)) (h .accepted)
+      (it-is-first isHeld placeFacts cellFacts factsKey freeCell (u .cells) (h .accepted) (waits h) (cells-tied u h k) place c
+      (rw e at (leads isHeld keyOf freeCell refl (u .cells))) alike alike-self alike-told)
 
-  module _ (place : ℕ) (c : Place) (e : chosen u true ≡ at place c) where
-    lead : Leads isHeld keyOf freeCell (u .cells) (at place c)
-    lead = rw e at (sends-first u)
-
-    -- no waiting cell comes before the one that is sent
-    pub none-before : count (λ (a : Cell). comesBefore (cellKey a) (keyOf place c) && waits h a) (h .accepted) ≡ 0
-    none-before =
-        sym (k .tied (λ f n l. comesBefore (record { rank = l; flow = f; number = n }) (keyOf place c)))
-        ∙ at-none (holds (λ f n l. comesBefore (record { rank = l; flow = f; number = n }) (keyOf place c))) freeCell 0 (u .cells)
-        (λ i l. go i (getD (u .cells) i freeCell .held) refl)
-      where
-        go : (i : ℕ) (t : Bool) → getD (u .cells) i freeCell .held ≡ t
-            → (t && comesBefore (keyOf (0 + i) (getD (u .cells) i freeCell)) (keyOf place c)) ≡ false
-        go i true p = subst (λ (n : ℕ). comesBefore (keyOf n (getD (u .cells) i freeCell)) (keyOf place c) ≡ false) (omega arith) (lead .3 i p)
-        go i false p = refl
-
-    -- the cell that is sent is among the waiting cells
-    is-this : Cell → Bool
-    is-this a = eqb (a .flow) (flowOf placeCount place) && (eqb (a .number) (c .number) && eqb (a .last) (c .last .0))
-
-    some-waits : 0 < count (λ (a : Cell). is-this a && waits h a) (h .accepted)
-    unfolding is-this
-    some-waits =
-        let ask : Question = λ f n l. eqb f (flowOf placeCount place) && (eqb n (c .number) && eqb l (c .last .0)) in
-        let z : 0 + place ≡ place = omega arith in
-        let t : holds ask (0 + place) (getD (u .cells) place freeCell) ≡ true =
-        subst (λ (x : Place). holds ask (0 + place) x ≡ true) (sym (lead .1))
-        (rw (z, lead .2, eq-eqb (flowOf placeCount place) (flowOf placeCount place) refl, eq-eqb (c .number) (c .number) refl, eq-eqb (c .last .0) (c .last .0) refl)) in
-        omega (arith, k .tied ask, at-here (holds ask) freeCell 0 (u .cells) place (lead .0) t)
-
-    is-told : (a : Cell) → (is-this a && waits h a) ≡ true
-        → (waits h a ≡ true) × (a .flow ≡ flowOf placeCount place) × (a .number ≡ c .number) × (a .last ≡ c .last .0)
-    unfolding is-this
-    is-told a = go (eqb (a .flow) (flowOf placeCount place)) refl (eqb (a .number) (c .number)) refl (eqb (a .last) (c .last .0)) refl (waits h a)
-      where
-        go : (p : Bool) → eqb (a .flow) (flowOf placeCount place) ≡ p → (q : Bool) → eqb (a .number) (c .number) ≡ q → (r : Bool) → eqb (a .last) (c .last .0) ≡ r
-            → (w : Bool) → ((p && (q && r)) && w) ≡ true
-            → (w ≡ true) × (a .flow ≡ flowOf placeCount place) × (a .number ≡ c .number) × (a .last ≡ c .last .0)
-        go true e true f true g true x = (refl, eqb-true (a .flow) (flowOf placeCount place) e, eqb-true (a .number) (c .number) f, eqb-true (a .last) (c .last .0) g)
-        go true e true f true g false x = absurd (false≢true x)
-        go true e true f false g w x = absurd (false≢true x)
-        go true e false f r g w x = absurd (false≢true x)
-        go false e q f r g w x = absurd (false≢true x)
-
-    not-before : (a : Cell) → cellKey a ≡ keyOf place c → (b : Cell) → (comesBefore (cellKey b) (keyOf place c) && waits h b) ≡ false
-        → waits h b ≡ true → comesBefore (cellKey b) (cellKey a) ≡ false
-    not-before a e b f w = rw (e, ← go (comesBefore (cellKey b) (keyOf place c)) (waits h b) w) f
-      where
-        go : (x y : Bool) → y ≡ true → (x && y) ≡ x
-        go true true p = refl
-        go true false p = absurd (false≢true p)
-        go false y p = refl
-
-    pub sent-first : (missed : ℕ) → Earliest h (Sent (flowOf placeCount place) (c .number) missed)
-    unfolding is-this
-    sent-first missed =
-        some-map (λ a. (is-this a && waits h a) ≡ true) _
-        (λ a p.
-        let t = is-told a p in
-        let e : cellKey a ≡ keyOf place c = λ i. record { rank = t .3 i; flow = t .1 i; number = t .2 i } in
-        (t .0, t .1, t .2, each-map (λ b. (comesBefore (cellKey b) (keyOf place c) && waits h b) ≡ false) _ (not-before a e) (h .accepted) (none-passes _ (h .accepted) none-before)))
-        (h .accepted) (some-passes (λ a. is-this a && waits h a) (h .accepted) some-waits)
-
-pub sends-earliest : (u : Urgent) (h : Cells) → Kept u h → SendsEarliest u h
+pub sends-earliest : (u : Urgent) (h : Cells) → Kept u h → Earliest h (turnOf u true .answer)
 unfolding turnOf firstOf
 sends-earliest u h k = go (leb slotLimit (u .now .0)) refl (leastHeld isHeld keyOf (u .cells)) refl
   where
     go : (t : Bool) → leb slotLimit (u .now .0) ≡ t → (x : Choice Place) → chosen u true ≡ x
-        → Earliest h (unless u (cond t (some SlotsUsedUp) none) (turned u x) .answer)
+        → Earliest h (unless (refused u) (cond t (some SlotsUsedUp) none) (turned u x) .answer)
     go true p x e = omega (arith, k .time, leb-true slotLimit (u .now .0) p)
     go false p nothing e = none-passes (waits h) (h .accepted) (none-wait u h k e (λ f n l. true))
     go false p (at place c) e = sent-first u h k place c e (count (lastIs (u .now)) (set (u .cells) place freeCell))

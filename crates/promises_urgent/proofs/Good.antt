@@ -11,21 +11,22 @@ use Rattle.places.specs.Places.{count}
 use Rattle.places.specs.Marks.{Mark, opens, closes, openIn, inForce}
 use Rattle.places.specs.Choice.{Choice, nothing, at, leastHeld, Leads}
 use Rattle.places.proofs.CountAt.{at-replicate}
+use Rattle.places.proofs.Least.{leads}
 use Rattle.urgent.specs.declared.Cell.{Cell as Place}
 use Rattle.urgent.specs.declared.Flow.{Flow}
 use Rattle.urgent.specs.declared.Urgent.{Urgent}
 use Rattle.urgent.specs.Lane.{freeCell, isHeld, shutFlow, freshLane, keyOf, lastIs}
 use Rattle.urgent.specs.Calls.{opened, openOf, closed, closeOf, offerOf, chosen, turned, turnOf}
 use Rattle.urgent.proofs.Cases.{open-cases, close-cases, offer-cases, turn-cases}
-use Rattle.urgent.proofs.Laws.{sends-first}
 use Rattle.promises_urgent.specs.Cells.{Cell, Cells, noCells, waits, isMissed}
 use Rattle.promises_urgent.specs.Notes.{marked, noteOpening, noteClosing, noteOffer, noteTurn}
 use Rattle.promises_urgent.specs.Promised.{holds, TermsStand}
-use Rattle.promises_urgent.proofs.Kept.{Kept, Few, waiting-told, kept-open, kept-close, kept-offer, few-offer, offeredCell, offer-waits, offer-window}
-use Rattle.promises_urgent.proofs.Turned.{without, goneFrom, sentCells, endLane, endCells, kept-sent, kept-end, few-turn, waits-less, this-waits}
+use Rattle.promises_urgent.proofs.Kept.{Kept, placeFacts, cellFacts, cells-tied, Few, waiting-told, kept-open, kept-close, kept-offer, few-offer, offeredCell, offer-waits, offer-window}
+use Rattle.promises_urgent.proofs.Turned.{without, goneFrom, sentCells, endLane, endCells, kept-sent, kept-end, few-turn, waits-less, sent-waits}
 use Rattle.promises_urgent.proofs.Missed.{waiting-not-missed, missed-end, missed-sent}
-use Rattle.promises_urgent.proofs.Account.{none-wait, none-before}
-use Rattle.promises_urgent.proofs.Steps.{none-earlier, sent-before}
+use Rattle.promises_urgent.proofs.Account.{factsKey, none-wait}
+use Rattle.promises_urgent.proofs.Steps.{sent-before}
+use Rattle.places.proofs.Leading.{none-earlier}
 use Rattle.promises_urgent.proofs.Terms.{terms-opened, terms-closed, terms-offer, terms-later}
 use Rattle.promises_urgent.proofs.Reason.{Reasons, reasons-none, reasons-offer, reasons-lost, reasons-idle, reasons-sent}
 use Rattle.promises_urgent.proofs.Own.{Sends, sends-none, sends-offer, sends-lost, sends-idle, sends-sent}
@@ -55,6 +56,7 @@ good-fresh =
             live = λ f o. absurd (false≢true o);
             next = λ f b. ap (λ (x : Flow). x .next) (getD-replicate 16 f shutFlow shutFlow b);
             numbered = tt;
+            windowed = tt;
             tied = λ ask. at-replicate (holds ask) freeCell (λ k. refl) 0 256;
             gone = λ ask. refl;
           };
@@ -131,11 +133,11 @@ module _ (u : Urgent) (h : Cells) (g : Good u h) where
   -- a turn that sends the cell at a place
   module _ (low : u .now .0 < slotLimit) (place : ℕ) (c : Place) (e : leastHeld isHeld keyOf (u .cells) ≡ at place c) where
     lead : Leads isHeld keyOf freeCell (u .cells) (at place c)
-    lead = rw e at (sends-first u)
+    lead = rw e at (leads isHeld keyOf freeCell refl (u .cells))
 
     -- no waiting cell has an earlier last slot
     first : count (λ (a : Cell). ltb (a .last) (c .last .0) && waits h a) (h .accepted) ≡ 0
-    first = none-earlier h place c (none-before u h (g .kept) place c e)
+    first = none-earlier isHeld placeFacts cellFacts factsKey freeCell (u .cells) (h .accepted) (waits h) (cells-tied u h (g .kept)) place c lead
 
     missed : ℕ
     missed = h .missed + count (lastIs (u .now)) (set (u .cells) place freeCell)
@@ -156,22 +158,22 @@ module _ (u : Urgent) (h : Cells) (g : Good u h) where
                 missed-end (without u place) (sentCells h place c) k (h .slot ∷ h .usable) missed,
               );
           best = best-sent h (g .best) missed (goneFrom h place c) (c .last .0) first (λ t. less (λ f n l. leb t l));
-          reasons = reasons-sent h (g .reasons) (g .kept .numbered) place c less first;
-          sends = sends-sent h (g .sends) place c less (this-waits u h (g .kept) place c (lead .0) (lead .1) (lead .2));
+          reasons = reasons-sent h (g .reasons) (g .kept .windowed) place c less first;
+          sends = sends-sent h (g .sends) place c less (sent-waits u h (g .kept) place c (lead .0) (lead .1) (lead .2));
           terms =
               terms-later h (g .terms) (endCells (sentCells h place c) (h .slot ∷ h .usable) missed) (omega arith) (sent-before (goneFrom h place c) (h .sent));
         }
 
   good-turned : u .now .0 < slotLimit → (usable : Bool) → Good (turned u (chosen u usable) .lane) (noteTurn h usable (turned u (chosen u usable) .answer))
   good-turned low false = good-idle low (h .usable) (best-lost h (g .best) (h .missed + count (lastIs (u .now)) (u .cells)))
-      (reasons-lost h (g .reasons) (g .kept .numbered)) (sends-lost h (g .sends))
+      (reasons-lost h (g .reasons) (g .kept .windowed)) (sends-lost h (g .sends))
   good-turned low true = go (leastHeld isHeld keyOf (u .cells)) refl
     where
       go : (x : Choice Place) → leastHeld isHeld keyOf (u .cells) ≡ x → Good (turned u x .lane) (noteTurn h true (turned u x .answer))
       go nothing e =
           good-idle low (h .slot ∷ h .usable)
           (best-idle h (g .best) (h .missed + count (lastIs (u .now)) (u .cells)) (λ t. none-wait u h (g .kept) e (λ f n l. leb t l)))
-          (reasons-idle h (g .reasons) (g .kept .numbered) (none-wait u h (g .kept) e)) (sends-idle h (g .sends))
+          (reasons-idle h (g .reasons) (g .kept .windowed) (none-wait u h (g .kept) e)) (sends-idle h (g .sends))
       go (at place c) e = good-sent low place c e
 
   pub good-turn : (usable : Bool) → Good (turnOf u usable .lane) (noteTurn h usable (turnOf u usable .answer))

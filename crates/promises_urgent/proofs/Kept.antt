@@ -10,23 +10,25 @@ use lib.Dec.{leb, eqb}
 use lib.ListN.{length, getD, set, length-set}
 use Rattle.units.specs.Limits.{placeCount, slotLimit, badDeadline}
 use Rattle.units.proofs.Limits.{inside}
-use Rattle.places.specs.Places.{bit, count, countAt, firstFree, placesOf}
+use Rattle.places.specs.Places.{bit, count, countAt, flowOf, firstFree, placesOf}
 use Rattle.places.specs.Marks.{Mark, opens, closes, openIn, inForce}
 use Rattle.places.proofs.Count.{count-le, count-le-length, and-le}
 use Rattle.places.proofs.CountAt.{own-places}
 use Rattle.places.proofs.Free.{part-length}
 use Rattle.places.proofs.Tests.{and-holds}
-use Rattle.places.proofs.Marks.{force-opened, force-closed, Told, told-opened, told-closed}
-use Rattle.places.proofs.Stores.{set-cases, set-keeps, at-more, free-low, free-flow, free-unheld}
+use Rattle.places.proofs.Numbers.{none-above}
+use Rattle.places.proofs.Waiting.{Tied}
+use Rattle.places.proofs.Coming.{tied-come}
+use Rattle.places.proofs.Marks.{force-opened, force-closed, AsMarked, marked-opened, marked-closed}
+use Rattle.places.proofs.Stores.{set-cases, set-keeps}
 use Rattle.urgent.specs.declared.Cell.{Cell as Place}
 use Rattle.urgent.specs.declared.Flow.{Flow}
 use Rattle.urgent.specs.declared.Urgent.{Urgent}
 use Rattle.urgent.specs.Lane.{freeCell, isHeld, shutFlow, flowAt, waitingOf}
 use Rattle.urgent.specs.Calls.{withFlow, opened, closed, accepted, lastSlot}
-use Rattle.promises_urgent.specs.Cells.{Cell, Gone, Cells, deadlineIn, wasSent, waits}
+use Rattle.promises_urgent.specs.Cells.{Cell, itsFlow, itsNumber, isCell, Gone, Cells, deadlineIn, wasSent, waits}
 use Rattle.promises_urgent.specs.Notes.{marked, noteOffer}
-use Rattle.promises_urgent.specs.Promised.{Question, holds, acceptedOf, waitingIn, Numbered}
-use Rattle.promises_urgent.proofs.Numbers.{isCell, none-above}
+use Rattle.promises_urgent.specs.Promised.{Question, holds, acceptedOf, waitingIn, CellsNumbered, Windowed}
 
 pub record Kept (u : Urgent) (h : Cells) : Type 0 where
   pub sixteen : length (u .flows) ≡ 16
@@ -37,11 +39,29 @@ pub record Kept (u : Urgent) (h : Cells) : Type 0 where
   pub deadlines : (f : ℕ) → f < 16 → flowAt u f .deadline ≡ deadlineIn h f
   pub live : (f : ℕ) → openIn (h .marks) f ≡ true → 1 ≤ deadlineIn h f
   pub next : (f : ℕ) → f < 16 → flowAt u f .next ≡ acceptedOf h f
-  pub numbered : Numbered (h .accepted)
+  pub numbered : CellsNumbered (h .accepted)
+  pub windowed : Windowed (h .accepted)
   pub tied : (ask : Question) → countAt (holds ask) 0 (u .cells) ≡ count (λ (a : Cell). ask (a .flow) (a .number) (a .last) && waits h a) (h .accepted)
   pub gone : (ask : ℕ → ℕ → Bool)
       → count (λ (a : Cell). ask (a .flow) (a .number) && wasSent (h .sent) (a .flow) (a .number)) (h .accepted)
       ≡ count (λ (g : Gone). ask (g .flow) (g .number)) (h .sent)
+
+-- what can be asked of a cell: of one that holds a place, and of one that was accepted
+abbrev pub Facts : Type 0
+Facts = ℕ × ℕ × ℕ
+
+abbrev pub placeFacts : ℕ → Place → Facts
+placeFacts place c = (flowOf placeCount place, c .number, c .last .0)
+
+abbrev pub cellFacts : Cell → Facts
+cellFacts a = (a .flow, a .number, a .last)
+
+abbrev pub asking : Question → Facts → Bool
+asking ask x = ask (x .0) (x .1) (x .2)
+
+-- so the waiting cells are tied to the held places
+pub cells-tied : (u : Urgent) (h : Cells) → Kept u h → Tied isHeld placeFacts cellFacts (u .cells) (h .accepted) (waits h)
+cells-tied u h k ask = k .tied (λ f n l. ask (f, n, l))
 
 -- a flow's cells that wait no more left in turns, at most sixteen in each
 abbrev pub Few : Cells → Type 0
@@ -65,13 +85,13 @@ module _ (u : Urgent) (h : Cells) (k : Kept u h) (flow : ℕ) (l : flow ≤ 15) 
   low : flow < length (u .flows)
   low = omega (arith, k .sixteen)
 
-  abbrev FlowsTold : List Flow → List Mark → Type 0
-  FlowsTold = Told (λ (x : Flow). x .opened) (λ (x : Flow). x .deadline) shutFlow 16
+  abbrev FlowsAsMarked : List Flow → List Mark → Type 0
+  FlowsAsMarked = AsMarked (λ (x : Flow). x .opened) (λ (x : Flow). x .deadline) shutFlow 16
 
-  told : FlowsTold (u .flows) (h .marks)
-  told f b = (k .openFlows f b, k .deadlines f b)
+  as-marked : FlowsAsMarked (u .flows) (h .marks)
+  as-marked f b = (k .openFlows f b, k .deadlines f b)
 
-  kept-marked : (x : Flow) (mark : Mark) → x .next ≡ flowAt u flow .next → FlowsTold (set (u .flows) flow x) (mark ∷ h .marks)
+  kept-marked : (x : Flow) (mark : Mark) → x .next ≡ flowAt u flow .next → FlowsAsMarked (set (u .flows) flow x) (mark ∷ h .marks)
       → ((f : ℕ) → openIn (mark ∷ h .marks) f ≡ true → 1 ≤ inForce (mark ∷ h .marks) f) → Kept (withFlow u flow x) (marked h mark)
   kept-marked x mark next t live =
       record {
@@ -84,6 +104,7 @@ module _ (u : Urgent) (h : Cells) (k : Kept u h) (flow : ℕ) (l : flow ≤ 15) 
         live = live;
         next = λ f b. set-keeps (u .flows) flow x shutFlow low (λ (y : Flow). y .next) next f ∙ k .next f b;
         numbered = k .numbered;
+        windowed = k .windowed;
         tied = k .tied;
         gone = k .gone;
       }
@@ -91,13 +112,13 @@ module _ (u : Urgent) (h : Cells) (k : Kept u h) (flow : ℕ) (l : flow ≤ 15) 
   pub kept-open : (deadline : ℕ) → badDeadline deadline ≡ false → Kept (opened u flow deadline .lane) (marked h (opens flow deadline))
   kept-open deadline d =
       kept-marked _ (opens flow deadline) refl
-      (told-opened (λ (x : Flow). x .opened) (λ (x : Flow). x .deadline) shutFlow 16 (u .flows) (h .marks) told flow _ low refl)
+      (marked-opened (λ (x : Flow). x .opened) (λ (x : Flow). x .deadline) shutFlow 16 (u .flows) (h .marks) as-marked flow _ low refl)
       (force-opened (λ n. 1 ≤ n) (h .marks) (k .live) flow deadline (inside deadline 4096 d .0))
 
   pub kept-close : Kept (closed u flow .lane) (marked h (closes flow))
   kept-close =
       kept-marked _ (closes flow) refl
-      (told-closed (λ (x : Flow). x .opened) (λ (x : Flow). x .deadline) shutFlow 16 (u .flows) (h .marks) told flow _ low refl (k .deadlines flow (omega arith)))
+      (marked-closed (λ (x : Flow). x .opened) (λ (x : Flow). x .deadline) shutFlow 16 (u .flows) (h .marks) as-marked flow _ low refl (k .deadlines flow (omega arith)))
       (force-closed (λ n. 1 ≤ n) (h .marks) (k .live) flow)
 
 -- ---- a cell is accepted
@@ -109,9 +130,6 @@ offeredCell u h flow =
 module _ (u : Urgent) (h : Cells) (k : Kept u h) (few : Few h) (flow : ℕ) (l : flow ≤ 15) (o : flowAt u flow .opened ≡ true) (room : waitingOf u flow < 16) where
   place : ℕ
   place = flow * placeCount + firstFree isHeld (placesOf placeCount flow (u .cells))
-
-  fits-in : flow * 16 + 16 ≤ length (u .cells)
-  fits-in = omega (arith, k .long)
 
   number : ℕ
   number = flowAt u flow .next
@@ -143,7 +161,7 @@ module _ (u : Urgent) (h : Cells) (k : Kept u h) (few : Few h) (flow : ℕ) (l :
         k .gone (λ f n. eqb f flow && eqb n number),
         count-le (λ (a : Cell). (eqb (a .flow) flow && eqb (a .number) number) && wasSent (h .sent) (a .flow) (a .number)) (isCell flow number)
             (λ a. and-le (eqb (a .flow) flow && eqb (a .number) number) (wasSent (h .sent) (a .flow) (a .number))) (h .accepted),
-        none-above flow number (h .accepted) (k .numbered) (omega (arith, k .next flow (omega arith))),
+        none-above itsFlow itsNumber flow number (h .accepted) (k .numbered) (omega (arith, k .next flow (omega arith))),
       ))
 
   in-window : leb (h .slot) last ≡ true
@@ -152,13 +170,6 @@ module _ (u : Urgent) (h : Cells) (k : Kept u h) (few : Few h) (flow : ℕ) (l :
 
   new-place : Place
   new-place = record { held = true; number = number; last = record { 0 = last } }
-
-  set-in : (ask : Question) → countAt (holds ask) 0 (set (u .cells) place new-place) ≡ bit (ask flow number last) + countAt (holds ask) 0 (u .cells)
-  unfolding new-place place
-  set-in ask =
-      let free = free-unheld isHeld freeCell (u .cells) 16 flow fits-in room in
-      let own = free-flow isHeld freeCell (u .cells) 16 flow fits-in room in
-      rw own at (at-more (u .cells) place new-place freeCell (free-low isHeld freeCell (u .cells) 16 flow fits-in room) (holds ask) (rw free))
 
   new-cell : Cell
   new-cell = record { flow = flow; number = number; last = last; arrival = h .slot; deadline = deadlineIn h flow }
@@ -202,8 +213,11 @@ module _ (u : Urgent) (h : Cells) (k : Kept u h) (few : Few h) (flow : ℕ) (l :
         deadlines = λ f b. offer-flow f b .1;
         live = k .live;
         next = λ f b. offer-flow f b .2;
-        numbered = (k .next flow (omega arith), omega (arith, k .time, k .deadlines flow (omega arith)), k .live flow is-open, k .numbered);
-        tied = λ ask. omega (arith, set-in ask, k .tied ask, ap bit (and-holds (ask flow number last) (waits h new-cell) new-waits));
+        numbered = (k .next flow (omega arith), k .numbered);
+        windowed = ((omega (arith, k .time, k .deadlines flow (omega arith)), k .live flow is-open), k .windowed);
+        tied = λ ask.
+            tied-come isHeld placeFacts cellFacts freeCell (u .cells) (h .accepted) (waits h) (cells-tied u h k) placeCount flow (omega (arith, k .long)) room
+            new-place new-cell refl new-waits (λ place e. ap (λ (f : ℕ). (f, number, last)) e) (asking ask);
         gone = λ ask. omega (arith, k .gone ask, and-false (ask flow number) (wasSent (h .sent) flow number) new-unsent);
       }
 

@@ -1,4 +1,3 @@
-pub mod Numbers
 pub mod Kept
 pub mod Turned
 pub mod Missed

@@ -16,10 +16,9 @@ use Rattle.places.proofs.Tests.{eqb-swap}
 use Rattle.urgent.specs.declared.Cell.{Cell as Place}
 use Rattle.urgent.specs.declared.Urgent.{Urgent}
 use Rattle.urgent.specs.Lane.{freeCell, lastIs}
-use Rattle.promises_urgent.specs.Cells.{Cell, Cells, wasSent, waits, isMissed}
-use Rattle.promises_urgent.proofs.Numbers.{isCell}
+use Rattle.promises_urgent.specs.Cells.{Cell, isCell, Cells, wasSent, waits, isMissed}
 use Rattle.promises_urgent.proofs.Kept.{Kept}
-use Rattle.promises_urgent.proofs.Turned.{sentCells, this-waits, endCells}
+use Rattle.promises_urgent.proofs.Turned.{sentCells, sent-waits, endCells}
 
 -- a waiting cell is not missed
 pub waiting-not-missed : (h : Cells) (a : Cell) → waits h a ≡ true → isMissed h a ≡ false
@@ -92,5 +91,5 @@ module _ (u : Urgent) (h : Cells) (k : Kept u h) (place : ℕ) (c : Place) (low 
         count-add (isMissed h) (isMissed (sentCells h place c)) (λ (a : Cell). this a && isMissed h a)
             (λ a. rw (swap a) (split-missed (this a) (wasSent (h .sent) (a .flow) (a .number)) (ltb (a .last) (h .slot)))) (h .accepted),
         count-le (λ (a : Cell). this a && isMissed h a) (λ a. this a && not (waits h a)) (λ a. not-both (this a) (wasSent (h .sent) (a .flow) (a .number)) (a .last)) (h .accepted),
-        this-waits u h k place c low there held,
+        sent-waits u h k place c low there held,
       )

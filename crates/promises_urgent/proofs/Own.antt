@@ -16,12 +16,12 @@ use Rattle.places.specs.Places.{bit, count, flowOf}
 use Rattle.places.proofs.Count.{count-le, and-le}
 use Rattle.urgent.specs.declared.Cell.{Cell as Place}
 use Rattle.places.specs.Members.{Each}
+use Rattle.places.proofs.Numbers.{is-this}
 use Rattle.places.proofs.Tests.{eqb-swap}
 use Rattle.promises_urgent.specs.Plans.{Member, Apart, noWindow, Sending, Allowed}
-use Rattle.promises_urgent.specs.Cells.{Cell, noCell, Gone, Cells, noCells, wasSent, waits, windowOf, windows}
-use Rattle.promises_urgent.specs.Promised.{Numbered, indexOf, OwnPlan}
+use Rattle.promises_urgent.specs.Cells.{Cell, itsFlow, itsNumber, isCell, noCell, Gone, Cells, noCells, wasSent, waits, windowOf, windows}
+use Rattle.promises_urgent.specs.Promised.{Windowed, indexOf, OwnPlan}
 use Rattle.places.proofs.Members.{none-passes, each-map, each-at}
-use Rattle.promises_urgent.proofs.Numbers.{isCell, is-cell}
 use Rattle.promises_urgent.proofs.Turned.{sentCells, endCells}
 use Rattle.promises_urgent.proofs.Steps.{withCell, OneLess, waits-told, sent-before}
 
@@ -146,7 +146,7 @@ module _ (h : Cells) (s : Sends h) (place : ℕ) (c : Place) (less : OneLess h p
   pub sends-sent : Sends (endCells (sentCells h place c) (h .slot ∷ h .usable) (h .missed))
   unfolding it
   sends-sent =
-      let i = is-cell (flowOf placeCount place) (c .number) it (found .1) in
+      let i = is-this itsFlow itsNumber (flowOf placeCount place) (c .number) it (found .1) in
       let w = waits-told h it it-waits in (
         arrived-later (h .slot) (h .accepted) (s .0),
         (omega arith, rw (i .0, i .1) at (w .0), s .1),
@@ -162,10 +162,10 @@ abbrev sending : List Cell → Gone → Sending
 sending cells g = record { cell = indexOf cells (g .flow) (g .number); slot = g .slot }
 
 -- a cell's last slot is that of its window
-window-last : (cells : List Cell) → Numbered cells → (i : ℕ) → getD cells i noCell .last ≡ windowOf (getD cells i noCell) .last
-window-last [] n i = refl
-window-last (a ∷ cells) n zero = n .1
-window-last (a ∷ cells) n (suc i) = window-last cells (n .3) i
+window-last : (cells : List Cell) → Windowed cells → (i : ℕ) → getD cells i noCell .last ≡ windowOf (getD cells i noCell) .last
+window-last [] w i = refl
+window-last (a ∷ cells) w zero = w .0 .0
+window-last (a ∷ cells) w (suc i) = window-last cells (w .1) i
 
 -- a cell that was not sent in some sendings has another index than theirs
 module _ (cells : List Cell) (usable : List ℕ) (g : Gone) (right : Right cells usable g) where
@@ -197,7 +197,7 @@ slots-apart cells n [] f = tt
 slots-apart cells n (g ∷ gs) f = ((λ m. omega (arith, below cells (g .slot) gs (f .2) (g .slot) m)), slots-apart cells (g .slot) gs (f .2))
 
 -- each sending is allowed: a cell's window is read at the cell's index
-all-allowed : (h : Cells) → Numbered (h .accepted) → (gs : List Gone) → Each (Right (h .accepted) (h .usable)) gs
+all-allowed : (h : Cells) → Windowed (h .accepted) → (gs : List Gone) → Each (Right (h .accepted) (h .usable)) gs
     → Each (Allowed (windows h) (h .usable)) (map (sending (h .accepted)) gs)
 all-allowed h n [] r = tt
 all-allowed h n (g ∷ gs) r =
@@ -213,12 +213,12 @@ all-allowed h n (g ∷ gs) r =
     )
 
 -- U4
-pub own-plan : (h : Cells) → Sends h → Numbered (h .accepted) → OwnPlan h
-own-plan h s numbered =
+pub own-plan : (h : Cells) → Sends h → Windowed (h .accepted) → OwnPlan h
+own-plan h s windowed =
     record {
       plan =
           record {
-            allowed = all-allowed h numbered (h .sent) (s .2);
+            allowed = all-allowed h windowed (h .sent) (s .2);
             cellsApart = cells-apart (h .accepted) (h .usable) (h .slot) (h .sent) (s .1) (s .2);
             slotsApart = slots-apart (h .accepted) (h .slot) (h .sent) (s .1);
           };

@@ -16,7 +16,7 @@ use Rattle.places.specs.Members.{Each}
 use Rattle.promises_urgent.specs.Plans.{due, slotsIn, Overloaded}
 use Rattle.promises_urgent.specs.Cells.{Cell, Gone, Cells, noCells, wasSent, waits, isMissed, windowOf, windows}
 use Rattle.promises_urgent.specs.Notes.{slotOf}
-use Rattle.promises_urgent.specs.Promised.{Question, Numbered, Explained}
+use Rattle.promises_urgent.specs.Promised.{Question, Windowed, Explained}
 use Rattle.places.proofs.Members.{none-passes, each-map}
 use Rattle.promises_urgent.proofs.Steps.{withCell, OneLess, waits-told, sent-before, fewer-wait}
 use Rattle.promises_urgent.proofs.Turned.{goneFrom, sentCells, endCells}
@@ -118,7 +118,7 @@ same-slots h true s b l =
 same-slots h false s b l = le-refl (slotsIn (h .usable) s b)
 
 -- from there to the turn's end
-module _ (h : Cells) (r : Reasons h) (numbered : Numbered (h .accepted)) (usable : Bool) (sent : List Gone)
+module _ (h : Cells) (r : Reasons h) (windowed : Windowed (h .accepted)) (usable : Bool) (sent : List Gone)
     (fewer : (f n : ℕ) → wasSent sent f n ≡ false → wasSent (h .sent) f n ≡ false)
     (busy : (b : ℕ) → h .slot ≤ b → Busy (suc (h .slot)) (midway h usable sent) b) where
   later : Cells
@@ -171,28 +171,28 @@ module _ (h : Cells) (r : Reasons h) (numbered : Numbered (h .accepted)) (usable
       go false p false q y t e = absurd (false≢true e)
 
   -- each missed cell of a list
-  reasons : (cells : List Cell) → Numbered cells
+  reasons : (cells : List Cell) → Windowed cells
       → Each (λ (a : Cell). ((leb (a .last) (h .slot) && ltb (a .arrival) (busy (h .slot) (le-refl (h .slot)) .0)) && waits (midway h usable sent) a) ≡ false) cells
       → Each (λ (a : Cell). isMissed h a ≡ true → Overloaded (windows h) (h .usable) (windowOf a)) cells
       → count (λ (a : Cell). leb (a .last) (h .slot) && waits (midway h usable sent) a) cells ≤ pending (midway h usable sent) (h .slot)
       → Each (λ (a : Cell). isMissed later a ≡ true → Overloaded (windows h) (slotOf usable (h .slot) (h .usable)) (windowOf a)) cells
   unfolding count
-  reasons [] n y t p = tt
-  reasons (a ∷ cells) n y t p = (reason a (n .1) (y .0) (t .0) (omega arith), reasons cells (n .3) (y .1) (t .1) (omega arith))
+  reasons [] w y t p = tt
+  reasons (a ∷ cells) w y t p = (reason a (w .0 .0) (y .0) (t .0) (omega arith), reasons cells (w .1) (y .1) (t .1) (omega arith))
 
   reasons-end : Reasons later
   unfolding later
   reasons-end = (
     past-turn h usable (r .0),
     busy-end,
-    reasons (h .accepted) numbered (none-passes _ (h .accepted) (busy (h .slot) (le-refl (h .slot)) .2)) (r .2) (le-refl (pending (midway h usable sent) (h .slot))),
+    reasons (h .accepted) windowed (none-passes _ (h .accepted) (busy (h .slot) (le-refl (h .slot)) .2)) (r .2) (le-refl (pending (midway h usable sent) (h .slot))),
   )
 
 -- ---- a turn that sends nothing
-pub reasons-lost : (h : Cells) → Reasons h → Numbered (h .accepted) → Reasons (endCells h (h .usable) (h .missed))
+pub reasons-lost : (h : Cells) → Reasons h → Windowed (h .accepted) → Reasons (endCells h (h .usable) (h .missed))
 unfolding later
-reasons-lost h r numbered =
-    reasons-end h r numbered false (h .sent) (λ f n e. e) (λ b l. let m = r .1 b l in (m .0, omega (arith, m .1), m .2, m .3))
+reasons-lost h r windowed =
+    reasons-end h r windowed false (h .sent) (λ f n e. e) (λ b l. let m = r .1 b l in (m .0, omega (arith, m .1), m .2, m .3))
 
 -- where no cell waits to go by b, the count starts anew after an open turn
 anew : (h : Cells) (sent : List Gone) → slotsFrom (h .usable) (h .slot) ≡ 0 → (b : ℕ) → pending (midway h true sent) b ≡ 0 → Busy (suc (h .slot)) (midway h true sent) b
@@ -207,15 +207,15 @@ anew h sent past b z = (
   omega (arith, past-turn h true past),
 )
 
-pub reasons-idle : (h : Cells) → Reasons h → Numbered (h .accepted)
+pub reasons-idle : (h : Cells) → Reasons h → Windowed (h .accepted)
     → ((ask : Question) → count (λ (a : Cell). ask (a .flow) (a .number) (a .last) && waits h a) (h .accepted) ≡ 0)
     → Reasons (endCells h (h .slot ∷ h .usable) (h .missed))
 unfolding later
-reasons-idle h r numbered none =
-    reasons-end h r numbered true (h .sent) (λ f n e. e) (λ b l. anew h (h .sent) (r .0) b (none (λ f n last. leb last b)))
+reasons-idle h r windowed none =
+    reasons-end h r windowed true (h .sent) (λ f n e. e) (λ b l. anew h (h .sent) (r .0) b (none (λ f n last. leb last b)))
 
 -- ---- a turn that sends
-module _ (h : Cells) (r : Reasons h) (numbered : Numbered (h .accepted)) (place : ℕ) (c : Place)
+module _ (h : Cells) (r : Reasons h) (windowed : Windowed (h .accepted)) (place : ℕ) (c : Place)
     (less : OneLess h place c)
     (first : count (λ (a : Cell). ltb (a .last) (c .last .0) && waits h a) (h .accepted) ≡ 0) where
   -- the turn's slot goes to the cell that is sent, or nothing waits to go by b
@@ -246,4 +246,4 @@ module _ (h : Cells) (r : Reasons h) (numbered : Numbered (h .accepted)) (place 
 
   pub reasons-sent : Reasons (endCells (sentCells h place c) (h .slot ∷ h .usable) (h .missed))
   unfolding later
-  reasons-sent = reasons-end h r numbered true (goneFrom h place c ∷ h .sent) (sent-before (goneFrom h place c) (h .sent)) busy-sent
+  reasons-sent = reasons-end h r windowed true (goneFrom h place c ∷ h .sent) (sent-before (goneFrom h place c) (h .sent)) busy-sent

@@ -5,17 +5,14 @@ use mathlib.Core.List.{List, _∷_}
 use Prim.Native.Nat.{ℕ, _+_, _≤_, zero-le}
 use native.Mathlib.Nat.{le-refl}
 use native.Mathlib.Omega.{arith}
-use borrow.Author.Tests.{leb-true, ltb-true, le-leb}
-use lib.Dec.{leb, ltb, eqb}
+use borrow.Author.Tests.{leb-true, le-leb}
+use lib.Dec.{leb, eqb}
 use Rattle.units.specs.Limits.{placeCount}
 use Rattle.places.specs.Places.{bit, count, flowOf}
-use Rattle.places.specs.Choice.{comesBefore}
 use Rattle.places.proofs.Count.{count-and-le}
-use Rattle.places.proofs.Order.{by-rank}
 use Rattle.urgent.specs.declared.Cell.{Cell as Place}
-use Rattle.urgent.specs.Lane.{keyOf}
 use Rattle.promises_urgent.specs.Cells.{Cell, Gone, Cells, wasSent, waits}
-use Rattle.promises_urgent.specs.Promised.{Question, cellKey}
+use Rattle.promises_urgent.specs.Promised.{Question}
 use Rattle.promises_urgent.proofs.Turned.{sentCells}
 
 -- the history after a cell is accepted
@@ -29,20 +26,6 @@ OneLess h place c =
     (ask : Question)
     → count (λ (a : Cell). ask (a .flow) (a .number) (a .last) && waits (sentCells h place c) a) (h .accepted) + bit (ask (flowOf placeCount place) (c .number) (c .last .0))
     ≡ count (λ (a : Cell). ask (a .flow) (a .number) (a .last) && waits h a) (h .accepted)
-
--- no cell waits whose last slot is before that of the cell that is sent
-pub none-earlier : (h : Cells) (place : ℕ) (c : Place) → count (λ (a : Cell). comesBefore (cellKey a) (keyOf place c) && waits h a) (h .accepted) ≡ 0
-    → count (λ (a : Cell). ltb (a .last) (c .last .0) && waits h a) (h .accepted) ≡ 0
-none-earlier h place c z =
-    omega (
-      arith,
-      count-and-le (λ (a : Cell). ltb (a .last) (c .last .0)) (waits h) (λ (a : Cell). comesBefore (cellKey a) (keyOf place c)) (waits h)
-          (λ a. go a (ltb (a .last) (c .last .0)) refl) (λ a. le-refl (bit (waits h a))) (h .accepted),
-    )
-  where
-    go : (a : Cell) (t : Bool) → ltb (a .last) (c .last .0) ≡ t → bit t ≤ bit (comesBefore (cellKey a) (keyOf place c))
-    go a true p = rw (← by-rank (cellKey a) (keyOf place c) (ltb-true (a .last) (c .last .0) p)) (le-refl 1)
-    go a false p = zero-le
 
 -- a cell that waits is not sent, and its last slot has not gone by
 pub waits-told : (h : Cells) (a : Cell) → waits h a ≡ true → (wasSent (h .sent) (a .flow) (a .number) ≡ false) × (h .slot ≤ a .last)

@@ -9,15 +9,12 @@ use lib.Dec.{eqb}
 use Rattle.places.specs.Marks.{opens, closes, openIn}
 use Rattle.places.proofs.Marks.{stands-opened, stands-closed, stands-fewer}
 use Rattle.places.proofs.Members.{none-passes, each-map}
-use Rattle.promises_urgent.specs.Cells.{Cell, Cells, deadlineIn, wasSent, waits}
+use Rattle.promises_urgent.specs.Cells.{Cell, itsFlow, Cells, deadlineIn, wasSent, waits}
 use Rattle.promises_urgent.specs.Notes.{marked}
 use Rattle.promises_urgent.specs.Promised.{waitingIn, TermsStand}
 use Rattle.promises_urgent.proofs.Steps.{withCell, waits-told}
 
--- a cell's terms, as the marks' laws have them
-abbrev itsFlow : Cell → ℕ
-itsFlow a = a .flow
-
+-- a cell's term, as the marks' laws have it
 abbrev ByDeadline : Cell → ℕ → Type 0
 ByDeadline a deadline = a .deadline ≡ deadline
 

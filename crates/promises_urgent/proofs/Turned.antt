@@ -9,18 +9,18 @@ use borrow.Author.Tests.{eqb-true, eqb-false, le-leb, lt-leb, leb-true, leb-fals
 use lib.Dec.{leb, eqb}
 use lib.ListN.{length, getD, set, length-set, length-map}
 use Rattle.units.specs.Limits.{placeCount, slotLimit}
-use Rattle.places.specs.Places.{bit, count, countAt, flowOf, cleared, clearedAll}
-use Rattle.places.proofs.Count.{count-same, count-le, count-add, and-le, and-le-right, bit-split}
-use Rattle.places.proofs.CountAt.{at-le, at-map}
-use Rattle.places.proofs.Tests.{and-holds, eqb-self, eqb-swap}
-use Rattle.places.proofs.Stores.{at-less}
+use Rattle.places.specs.Places.{bit, count, flowOf, cleared, clearedAll}
+use Rattle.places.proofs.Count.{count-same, count-le, count-add}
+use Rattle.places.proofs.CountAt.{at-map}
+use Rattle.places.proofs.Leaving.{Leaves, this-one, this-waits, one-less, tied-after}
+use Rattle.places.proofs.Numbers.{at-most-one}
+use Rattle.places.proofs.Tests.{eqb-self, eqb-swap}
 use Rattle.urgent.specs.declared.Cell.{Cell as Place}
 use Rattle.urgent.specs.declared.Urgent.{Urgent}
-use Rattle.urgent.specs.Lane.{freeCell, lastIs}
-use Rattle.promises_urgent.specs.Cells.{Cell, Gone, Cells, wasSent, waits}
+use Rattle.urgent.specs.Lane.{freeCell, isHeld, lastIs}
+use Rattle.promises_urgent.specs.Cells.{Cell, itsFlow, itsNumber, isCell, Gone, Cells, wasSent, waits}
 use Rattle.promises_urgent.specs.Promised.{Question, holds, acceptedOf}
-use Rattle.promises_urgent.proofs.Numbers.{isCell, at-most-one}
-use Rattle.promises_urgent.proofs.Kept.{Kept, Few, waiting-most}
+use Rattle.promises_urgent.proofs.Kept.{Kept, Facts, placeFacts, cellFacts, asking, cells-tied, Few, waiting-most}
 
 -- ---- a cell is sent
 abbrev pub without : Urgent → ℕ → Urgent
@@ -35,97 +35,47 @@ sentCells h place c =
 
 module _ (u : Urgent) (h : Cells) (k : Kept u h) (place : ℕ) (c : Place) (low : place < length (u .cells)) (there : getD (u .cells) place freeCell ≡ c) (held : c .held ≡ true) where
   -- the cell that is sent
-  this : Question
-  this f n l = eqb f (flowOf placeCount place) && eqb n (c .number)
+  abbrev this : Facts → Bool
+  this x = eqb (x .0) (flowOf placeCount place) && eqb (x .1) (c .number)
 
-  ask-this : Question → Bool
-  ask-this ask = ask (flowOf placeCount place) (c .number) (c .last .0)
+  -- it leaves its place
+  leaving : Leaves isHeld placeFacts cellFacts (u .cells) (h .accepted) (waits h) place c freeCell this
+  leaving =
+      record {
+        tied = cells-tied u h k;
+        low = low;
+        there = there;
+        isHeld = held;
+        isFree = refl;
+        isThis = rw (eqb-self (flowOf placeCount place), eqb-self (c .number));
+        one = at-most-one itsFlow itsNumber (flowOf placeCount place) (c .number) (h .accepted) (k .numbered);
+      }
 
-  set-out : (ask : Question) → countAt (holds ask) 0 (set (u .cells) place freeCell) + bit (ask-this ask) ≡ countAt (holds ask) 0 (u .cells)
-  unfolding ask-this
-  set-out ask = rw (there, held) at (at-less (u .cells) place freeCell freeCell low (holds ask) refl)
-
-  this-true : ask-this this ≡ true
-  unfolding ask-this this
-  this-true = rw (eqb-self (flowOf placeCount place), eqb-self (c .number))
-
-  -- one waiting cell is it
-  this-one : countAt (holds this) 0 (u .cells) ≡ 1
-  unfolding this
-  this-one =
-      let o : bit (ask-this this) ≡ 1 = ap bit this-true in
-      omega (
-        arith,
-        o,
-        set-out this,
-        k .tied this,
-        count-le (λ (a : Cell). this (a .flow) (a .number) (a .last) && waits h a) (isCell (flowOf placeCount place) (c .number))
-            (λ a. and-le (this (a .flow) (a .number) (a .last)) (waits h a)) (h .accepted),
-        at-most-one (flowOf placeCount place) (c .number) (h .accepted) (k .numbered),
-      )
-
-  -- of the cells that a question is asked of, it is the one that leaves
-  both : Question → Question
-  both ask f n l = ask f n l && this f n l
-
-  both-one : (ask : Question) → countAt (holds (both ask)) 0 (u .cells) ≡ bit (ask-this ask)
-  unfolding both ask-this
-  both-one ask =
-      let o : bit (ask-this this) ≡ 1 = ap bit this-true in
-      omega (
-        arith,
-        o,
-        this-one,
-        set-out this,
-        set-out (both ask),
-        ap bit (and-holds (ask-this ask) (ask-this this) this-true),
-        at-le (holds (both ask)) (holds this) (λ j x. go (x .held) (ask (flowOf placeCount j) (x .number) (x .last .0)) (this (flowOf placeCount j) (x .number) (x .last .0))) 0
-            (set (u .cells) place freeCell),
-      )
-    where
-      go : (p q r : Bool) → bit (p && (q && r)) ≤ bit (p && r)
-      go true q r = and-le-right q r
-      go false q r = zero-le
-
-  -- a cell that was not sent is the one sent now, or is not sent still
-  split-waits : (p q s l : Bool) → bit (p && (not s && l)) ≡ bit (p && (not (q || s) && l)) + bit ((p && q) && (not s && l))
-  split-waits false q s l = refl
-  split-waits true false s l = omega arith
-  split-waits true true true l = refl
-  split-waits true true false l = omega arith
-
-  swap : (a : Cell) → (eqb (flowOf placeCount place) (a .flow) && eqb (c .number) (a .number)) ≡ this (a .flow) (a .number) (a .last)
-  unfolding this
+  swap : (a : Cell) → (eqb (flowOf placeCount place) (a .flow) && eqb (c .number) (a .number)) ≡ this (cellFacts a)
   swap a = rw (eqb-swap (flowOf placeCount place) (a .flow), eqb-swap (c .number) (a .number))
+
+  -- a cell waits still if it waited and is not the one sent now
+  fewer : (a : Cell) → waits (sentCells h place c) a ≡ (waits h a && not (this (cellFacts a)))
+  unfolding wasSent
+  fewer a = rw (swap a) (go (this (cellFacts a)) (wasSent (h .sent) (a .flow) (a .number)) (leb (h .slot) (a .last)))
+    where
+      go : (q s l : Bool) → (not (q || s) && l) ≡ ((not s && l) && not q)
+      go true true l = refl
+      go true false true = refl
+      go true false false = refl
+      go false true l = refl
+      go false false true = refl
+      go false false false = refl
 
   -- one cell less waits
   pub waits-less : (ask : Question)
       → count (λ (a : Cell). ask (a .flow) (a .number) (a .last) && waits (sentCells h place c) a) (h .accepted) + bit (ask (flowOf placeCount place) (c .number) (c .last .0))
       ≡ count (λ (a : Cell). ask (a .flow) (a .number) (a .last) && waits h a) (h .accepted)
-  unfolding both ask-this wasSent
-  waits-less ask =
-      omega (
-        arith,
-        count-add (λ (a : Cell). ask (a .flow) (a .number) (a .last) && waits h a) (λ a. ask (a .flow) (a .number) (a .last) && waits (sentCells h place c) a)
-            (λ a. both ask (a .flow) (a .number) (a .last) && waits h a)
-            (λ a. rw (swap a) (split-waits (ask (a .flow) (a .number) (a .last)) (this (a .flow) (a .number) (a .last)) (wasSent (h .sent) (a .flow) (a .number)) (leb (h .slot) (a .last))))
-            (h .accepted),
-        k .tied (both ask),
-        both-one ask,
-      )
+  waits-less ask = one-less leaving fewer (asking ask)
 
   -- the cell that is sent waits: its last slot has not gone by
-  pub this-waits : count (λ (a : Cell). isCell (flowOf placeCount place) (c .number) a && not (waits h a)) (h .accepted) ≡ 0
-  unfolding this
-  this-waits =
-      omega (
-        arith,
-        this-one,
-        k .tied this,
-        count-add (isCell (flowOf placeCount place) (c .number)) (λ a. isCell (flowOf placeCount place) (c .number) a && waits h a)
-            (λ a. isCell (flowOf placeCount place) (c .number) a && not (waits h a)) (λ a. bit-split (isCell (flowOf placeCount place) (c .number) a) (waits h a)) (h .accepted),
-        at-most-one (flowOf placeCount place) (c .number) (h .accepted) (k .numbered),
-      )
+  pub sent-waits : count (λ (a : Cell). isCell (flowOf placeCount place) (c .number) a && not (waits h a)) (h .accepted) ≡ 0
+  sent-waits = this-waits leaving
 
   -- a cell that is told as sent was told so before, or is the one sent now
   split-gone : (q r s : Bool) → bit (q && (r || s)) ≡ bit (q && s) + bit ((q && r) && not s)
@@ -151,10 +101,10 @@ module _ (u : Urgent) (h : Cells) (k : Kept u h) (place : ℕ) (c : Place) (low 
   sent-more : (ask : ℕ → ℕ → Bool)
       → count (λ (a : Cell). ask (a .flow) (a .number) && wasSent (goneFrom h place c ∷ h .sent) (a .flow) (a .number)) (h .accepted)
       ≡ bit (ask (flowOf placeCount place) (c .number)) + count (λ (g : Gone). ask (g .flow) (g .number)) (h .sent)
-  unfolding both ask-this this wasSent
+  unfolding wasSent
   sent-more ask =
       let q : Cell → Bool = λ a. ask (a .flow) (a .number) in
-      let r : Cell → Bool = λ a. this (a .flow) (a .number) (a .last) in
+      let r : Cell → Bool = λ a. this (cellFacts a) in
       let s : Cell → Bool = λ a. wasSent (h .sent) (a .flow) (a .number) in
       let l : Cell → Bool = λ a. leb (h .slot) (a .last) in
       omega (
@@ -164,14 +114,13 @@ module _ (u : Urgent) (h : Cells) (k : Kept u h) (place : ℕ) (c : Place) (low 
         count-add (λ a. (q a && r a) && not (s a)) (λ a. (q a && r a) && (not (s a) && l a)) (λ a. (q a && r a) && (not (s a) && not (l a)))
             (λ a. split-late (q a) (r a) (s a) (l a)) (h .accepted),
         count-le (λ a. (q a && r a) && (not (s a) && not (l a))) (λ a. r a && not (waits h a)) (λ a. late-le (q a) (r a) (s a) (l a)) (h .accepted),
-        this-waits,
-        k .tied (both (λ f n last. ask f n)),
-        both-one (λ f n last. ask f n),
+        sent-waits,
+        this-one leaving (λ x. ask (x .0) (x .1)),
         k .gone ask,
       )
 
   pub kept-sent : Kept (without u place) (sentCells h place c)
-  unfolding ask-this count
+  unfolding count
   kept-sent =
       record {
         sixteen = k .sixteen;
@@ -183,7 +132,8 @@ module _ (u : Urgent) (h : Cells) (k : Kept u h) (place : ℕ) (c : Place) (low 
         live = k .live;
         next = k .next;
         numbered = k .numbered;
-        tied = λ ask. omega (arith, waits-less ask, set-out ask, k .tied ask);
+        windowed = k .windowed;
+        tied = λ ask. tied-after leaving fewer (asking ask);
         gone = sent-more;
       }
 
@@ -244,6 +194,7 @@ module _ (u : Urgent) (h : Cells) (k : Kept u h) (low : u .now .0 < slotLimit) (
         live = k .live;
         next = k .next;
         numbered = k .numbered;
+        windowed = k .windowed;
         tied = λ ask.
             at-map (holds ask) (holds (later ask)) (cleared (lastIs (u .now)) freeCell) (cleared-bit ask) 0 (u .cells)
             ∙ k .tied (later ask)

@@ -4,6 +4,7 @@ use mathlib.Core.List.{List, [], _∷_, map}
 use Prim.Native.Nat.{ℕ, _+_, _-_}
 use lib.Dec.{leb, ltb, eqb}
 use Rattle.places.specs.Marks.{Mark, inForce}
+use Rattle.places.specs.Numbers.{isThis}
 use Rattle.promises_urgent.specs.Plans.{Window}
 
 -- an accepted cell: its flow, its number and last slot as answered, the slot number at its acceptance, and the deadline then in force
@@ -16,6 +17,17 @@ pub record Cell : Type 0 where
 
 abbrev pub noCell : Cell
 noCell = record { flow = 0; number = 0; last = 0; arrival = 0; deadline = 0 }
+
+-- a cell is known by its flow and its number
+abbrev pub itsFlow : Cell → ℕ
+itsFlow a = a .flow
+
+abbrev pub itsNumber : Cell → ℕ
+itsNumber a = a .number
+
+-- the cell of this flow and number
+abbrev pub isCell : ℕ → ℕ → Cell → Bool
+isCell flow number a = isThis itsFlow itsNumber flow number a
 
 -- a cell that a turn answered as sent, and the slot of that turn
 pub record Gone : Type 0 where
@@ -39,7 +51,7 @@ pub record Cells : Type 0 where
 abbrev pub noCells : Cells
 noCells = record { slot = 0; marks = []; accepted = []; usable = []; sent = []; missed = 0 }
 
--- the deadline in force: that of the flow's newest opening
+-- the deadline in force: that of the flow's newest opening, 0 before any
 abbrev pub deadlineIn : Cells → ℕ → ℕ
 deadlineIn h flow = inForce (h .marks) flow
 

@@ -1,4 +1,4 @@
--- What each call of the urgent lane and its answer add to what is told of the cells.
+-- What each call of the urgent lane and its answer add to what is noted of the cells.
 use mathlib.Core.Bool.{Bool, true, false}
 use mathlib.Core.List.{List, _∷_}
 use Prim.Native.Nat.{ℕ, suc, _+_}

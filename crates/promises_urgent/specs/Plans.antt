@@ -54,6 +54,7 @@ due windows a b = count (λ (w : Window). leb a (w .first) && leb (w .last) b) w
 abbrev pub slotsIn : List ℕ → ℕ → ℕ → ℕ
 slotsIn slots a b = count (λ (t : ℕ). leb a t && leb t b) slots
 
--- A cell with this window had a reason to be missed: from some slot on, not after its arrival, more cells had to go by its last slot than slots were open.
+-- A cell with this window had a reason to be missed: from some slot on, not after its arrival, more cells arrived that had to go by its
+-- last slot than slots were open until then.
 abbrev pub Overloaded : List Window → List ℕ → Window → Type 0
 Overloaded windows slots w = (a : ℕ) × (a ≤ w .first) × (slotsIn slots a (w .last) < due windows a (w .last))

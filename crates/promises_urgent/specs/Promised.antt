@@ -1,4 +1,4 @@
--- The promises of the urgent lane, each as a statement about a lane and what the calls and answers so far tell of its cells.
+-- The promises of the urgent lane, each as a statement about a lane, what the calls and answers so far tell of its cells, or both.
 use mathlib.Core.Path.{_≡_}
 use mathlib.Core.Bool.{Bool, true, false, cond, _&&_}
 use mathlib.Core.List.{List, [], _∷_, map}
@@ -13,11 +13,11 @@ use Rattle.urgent.specs.declared.Cell.{Cell as Place}
 use Rattle.urgent.specs.declared.Answer.{Answer}
 use Rattle.urgent.specs.declared.Answer.the-variants.{Refused, Opened, Closed, Accepted, Sent, Idle}
 use Rattle.urgent.specs.Lane.{flowAt, waitingOf}
-use Rattle.urgent.specs.Calls.{turnOf}
 use Rattle.places.specs.Members.{Each, Some}
+use Rattle.places.specs.Numbers.{ofFlow, Numbered}
 use Rattle.places.specs.Marks.{openIn}
 use Rattle.promises_urgent.specs.Plans.{Sending, Plan, Overloaded}
-use Rattle.promises_urgent.specs.Cells.{Cell, deadlineIn, noCell, Gone, Cells, waits, isMissed, windowOf, windows}
+use Rattle.promises_urgent.specs.Cells.{Cell, itsFlow, itsNumber, isCell, deadlineIn, noCell, Gone, Cells, waits, isMissed, windowOf, windows}
 
 -- U0: the lane's next slot is the number of turns answered and not refused.
 abbrev pub OnTime : Urgent → Cells → Type 0
@@ -25,7 +25,7 @@ OnTime u h = u .now .0 ≡ h .slot
 
 -- how many cells of a flow were accepted, were sent, are missed, and wait
 abbrev pub acceptedOf : Cells → ℕ → ℕ
-acceptedOf h flow = count (λ (a : Cell). eqb (a .flow) flow) (h .accepted)
+acceptedOf h flow = ofFlow itsFlow flow (h .accepted)
 
 abbrev pub sentOf : Cells → ℕ → ℕ
 sentOf h flow = count (λ (g : Gone). eqb (g .flow) flow) (h .sent)
@@ -40,10 +40,11 @@ waitingIn h flow = count (λ (a : Cell). eqb (a .flow) flow && waits h a) (h .ac
 abbrev pub Question : Type 0
 Question = ℕ → ℕ → ℕ → Bool
 
+-- a place is held, and by a cell of which the answer is yes
 abbrev pub holds : Question → ℕ → Place → Bool
 holds ask place c = c .held && ask (flowOf placeCount place) (c .number) (c .last .0)
 
--- U1: for each flow the accepted cells are those sent, those missed and those that hold a place; the missed counts that turns
+-- U1: of each flow as many cells were accepted as were sent, are missed and hold a place, together; the missed counts that turns
 -- answered add up to the missed cells; and the places held are, cell for cell, the accepted cells that wait: whatever is asked of a
 -- cell's flow, number and last slot, as many places as waiting cells answer to it.
 pub record Accounted (u : Urgent) (h : Cells) : Type 0 where
@@ -57,8 +58,8 @@ pub record Accounted (u : Urgent) (h : Cells) : Type 0 where
 abbrev pub cellKey : Cell → Key
 cellKey a = record { rank = a .last; flow = a .flow; number = a .number }
 
--- U2: an open turn that is not refused answers flow and number of a waiting cell that no waiting cell comes before; it is idle
--- only where none waits.
+-- U2: an open turn that sends answers flow and number of a waiting cell that no waiting cell comes before by last slot, flow and number;
+-- it is idle only where none waits, and refused only where the slot numbers are used up.
 abbrev pub Earliest : Cells → Answer → Type 0
 Earliest h (Sent flow number missed) =
     Some
@@ -74,32 +75,28 @@ Earliest h Opened = ⊥
 Earliest h Closed = ⊥
 Earliest h (Accepted number last) = ⊥
 
-abbrev pub SendsEarliest : Urgent → Cells → Type 0
-SendsEarliest u h = Earliest h (turnOf u true .answer)
+-- U3: each accepted cell's number, as answered, is how many of its flow were accepted before it.
+abbrev pub CellsNumbered : List Cell → Type 0
+CellsNumbered cells = Numbered itsFlow itsNumber cells
 
--- U3: each accepted cell's number is how many of its flow were accepted before it, and its last slot is that of its window.
-abbrev pub Numbered : List Cell → Type 0
-Numbered [] = Unit {0}
-Numbered (a ∷ rest) =
-    (a .number ≡ count (λ (b : Cell). eqb (b .flow) (a .flow)) rest)
-    × (a .last ≡ windowOf a .last)
-    × (1 ≤ a .deadline)
-    × Numbered rest
+-- U3: and its last slot, as answered, is that of its window, which has a slot at least.
+abbrev pub Windowed : List Cell → Type 0
+Windowed cells = Each (λ (a : Cell). (a .last ≡ windowOf a .last) × (1 ≤ a .deadline)) cells
 
 -- the last slot of the window of a cell accepted now
 abbrev pub lastIn : Cells → ℕ → ℕ
 lastIn h flow = h .slot + deadlineIn h flow - 1
 
--- U3: and no flow's next number comes near the end of its type.
-abbrev pub FewNumbers : Urgent → Cells → Type 0
-FewNumbers u h = (flow : ℕ) → flow < 16 → flowAt u flow .next ≤ 16 * h .slot + 16
+-- U3: and no flow's next number comes near the end of its type: at most sixteen cells of a flow leave in a slot, and sixteen wait.
+abbrev pub FewNumbers : Urgent → Type 0
+FewNumbers u = (flow : ℕ) → flow < 16 → flowAt u flow .next ≤ 16 * slotLimit + 16
 
--- the index of the accepted cell of this flow and number
+-- the index of the accepted cell of this flow and number; where there is none, how many cells were accepted
 unfoldable pub indexOf : List Cell → ℕ → ℕ → ℕ
 indexOf [] flow number = 0
-indexOf (a ∷ rest) flow number = cond (eqb (a .flow) flow && eqb (a .number) number) 0 (suc (indexOf rest flow number))
+indexOf (a ∷ rest) flow number = cond (isCell flow number a) 0 (suc (indexOf rest flow number))
 
--- the lane's own sendings: the very cells and slots that the turns answered
+-- the lane's own sendings: the very cells that the turns answered, in the slots of those turns
 abbrev pub ownPlan : Cells → List Sending
 ownPlan h = map (λ (g : Gone). record { cell = indexOf (h .accepted) (g .flow) (g .number); slot = g .slot }) (h .sent)
 
@@ -114,11 +111,11 @@ pub record OwnPlan (h : Cells) : Type 0 where
       × (getD (h .accepted) (indexOf (h .accepted) (g .flow) (g .number)) noCell .number ≡ g .number))
       (h .sent)
 
--- U5: no plan, even one drawn up in hindsight, sends more of the accepted cells than the lane has sent.
+-- U5: no plan for the open slots so far, even one drawn up in hindsight, sends more of the accepted cells than the lane has sent.
 abbrev pub NoneBetter : Cells → Type 0
 NoneBetter h = (plan : List Sending) → Plan (windows h) (h .usable) plan → length plan ≤ length (h .sent)
 
--- U6: every missed cell has a reason.
+-- U6: every missed cell has a reason: some slots up to its last one were too few for the cells that had to go in them.
 abbrev pub Explained : Cells → Type 0
 Explained h = Each (λ (a : Cell). isMissed h a ≡ true → Overloaded (windows h) (h .usable) (windowOf a)) (h .accepted)
 

@@ -15,28 +15,29 @@ use Rattle.promises_urgent.specs.Cells.{Cells, deadlineIn}
 use Rattle.promises_urgent.specs.Promised.{waitingIn}
 
 -- open: opened and not closed since; waiting: accepted, not sent, last slot not gone by; the slot: the turns so far
-abbrev pub openingTold : Cells → ℕ → ℕ → List Ground
-openingTold h flow deadline =
+-- that were not refused
+abbrev pub openingNoted : Cells → ℕ → ℕ → List Ground
+openingNoted h flow deadline =
     (NoSuchFlow, noSuchFlow flow) ∷ (AlreadyOpen, openIn (h .marks) flow) ∷ (BadDeadline, badDeadline deadline) ∷ []
 
-abbrev pub closingTold : Cells → ℕ → List Ground
-closingTold h flow =
+abbrev pub closingNoted : Cells → ℕ → List Ground
+closingNoted h flow =
     (NoSuchFlow, noSuchFlow flow) ∷ (NotOpen, not (openIn (h .marks) flow)) ∷ (FlowInUse, ltb 0 (waitingIn h flow)) ∷ []
 
-abbrev pub offeringTold : Cells → ℕ → List Ground
-offeringTold h flow =
+abbrev pub offeringNoted : Cells → ℕ → List Ground
+offeringNoted h flow =
     (NoSuchFlow, noSuchFlow flow)
     ∷ (NotOpen, not (openIn (h .marks) flow))
     ∷ (PlacesFull, leb placeCount (waitingIn h flow))
     ∷ (SlotsUsedUp, ltb slotLimit (h .slot + deadlineIn h flow))
     ∷ []
 
-abbrev pub turnTold : Cells → List Ground
-turnTold h = (SlotsUsedUp, leb slotLimit (h .slot)) ∷ []
+abbrev pub turnNoted : Cells → List Ground
+turnNoted h = (SlotsUsedUp, leb slotLimit (h .slot)) ∷ []
 
 -- S4: each call is refused exactly as the calls and answers so far tell.
-pub record RefusedAsTold (u : Urgent) (h : Cells) : Type 0 where
-  pub opening : (flow deadline : ℕ) → refusalIn (openOf u flow deadline .answer) ≡ firstOf (openingTold h flow deadline)
-  pub closing : (flow : ℕ) → refusalIn (closeOf u flow .answer) ≡ firstOf (closingTold h flow)
-  pub offering : (flow : ℕ) → refusalIn (offerOf u flow .answer) ≡ firstOf (offeringTold h flow)
-  pub turning : (usable : Bool) → refusalIn (turnOf u usable .answer) ≡ firstOf (turnTold h)
+pub record RefusedAsNoted (u : Urgent) (h : Cells) : Type 0 where
+  pub opening : (flow deadline : ℕ) → refusalIn (openOf u flow deadline .answer) ≡ firstOf (openingNoted h flow deadline)
+  pub closing : (flow : ℕ) → refusalIn (closeOf u flow .answer) ≡ firstOf (closingNoted h flow)
+  pub offering : (flow : ℕ) → refusalIn (offerOf u flow .answer) ≡ firstOf (offeringNoted h flow)
+  pub turning : (usable : Bool) → refusalIn (turnOf u usable .answer) ≡ firstOf (turnNoted h)

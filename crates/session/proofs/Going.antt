@@ -125,7 +125,7 @@ abbrev pub lanes : UrgentDone → FairDone → Station
 lanes urgent fair = record { urgent = urgent .lane; fair = fair .lane }
 
 abbrev pub called : UrgentDone → FairDone → Reply → Called
-called urgent fair told = record { station = lanes urgent fair; reply = told }
+called urgent fair answered = record { station = lanes urgent fair; reply = answered }
 
 abbrev pub together : UrgentDone → FairDone → List ℕ → ℕ → Session
 together urgent fair kept count = record { station = lanes urgent fair; kept = kept; count = count }

@@ -20,12 +20,12 @@ pub(crate) fn read(kept: [u8; 32], count: usize) -> Parsed
 }
 
 // Puts the line of a reply into the output at a place, and answers the place after it.
-pub(crate) fn reply(told: Reply, out: &mut [u8], at: usize) -> usize
+pub(crate) fn reply(answered: Reply, out: &mut [u8], at: usize) -> usize
     requires { ⌜ at + 96 ≤ length (now out) ⌝ }
-    ensures { λ r. ⌜ Put (lineOf told) (now (out .entry)) at (now (out .exit)) r ⌝ }
+    ensures { λ r. ⌜ Put (lineOf answered) (now (out .entry)) at (now (out .exit)) r ⌝ }
 {
     let mut text = [0u8; 96];
-    let n = replies::print(told, &mut text);
+    let n = replies::print(answered, &mut text);
     place(text, n, out, at)
 }
 

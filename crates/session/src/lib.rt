@@ -68,70 +68,70 @@ impl Session {
             if b == b'\n' {
                 match read(kept, count) {
                     Parsed::Command(call) => {
-                        let mut told = Reply::Urgent(urgent::Answer::Opened);
+                        let mut answered = Reply::Urgent(urgent::Answer::Opened);
                         match call {
                             Call::OpenUrgent(flow, deadline) => {
                                 let lane = urgent.lane;
                                 urgent = lane.open(flow, deadline);
                                 let answer = urgent.answer;
-                                told = Reply::Urgent(answer);
+                                answered = Reply::Urgent(answer);
                             }
                             Call::OpenFair(flow, weight) => {
                                 let lane = fair.lane;
                                 fair = lane.open(flow, weight);
                                 let answer = fair.answer;
-                                told = Reply::Fair(answer);
+                                answered = Reply::Fair(answer);
                             }
                             Call::CloseUrgent(flow) => {
                                 let lane = urgent.lane;
                                 urgent = lane.close(flow);
                                 let answer = urgent.answer;
-                                told = Reply::Urgent(answer);
+                                answered = Reply::Urgent(answer);
                             }
                             Call::CloseFair(flow) => {
                                 let lane = fair.lane;
                                 fair = lane.close(flow);
                                 let answer = fair.answer;
-                                told = Reply::Fair(answer);
+                                answered = Reply::Fair(answer);
                             }
                             Call::OfferCell(flow) => {
                                 let lane = urgent.lane;
                                 urgent = lane.offer(flow);
                                 let answer = urgent.answer;
-                                told = Reply::Urgent(answer);
+                                answered = Reply::Urgent(answer);
                             }
                             Call::OfferPacket(flow, length) => {
                                 let lane = fair.lane;
                                 fair = lane.offer(flow, length);
                                 let answer = fair.answer;
-                                told = Reply::Fair(answer);
+                                answered = Reply::Fair(answer);
                             }
                             Call::OpenTurn => {
                                 let lane = urgent.lane;
                                 urgent = lane.turn(true);
                                 let answer = urgent.answer;
-                                told = Reply::Urgent(answer);
+                                answered = Reply::Urgent(answer);
                             }
                             Call::LostTurn => {
                                 let lane = urgent.lane;
                                 urgent = lane.turn(false);
                                 let answer = urgent.answer;
-                                told = Reply::Urgent(answer);
+                                answered = Reply::Urgent(answer);
                             }
                             Call::Begin => {
                                 let lane = fair.lane;
                                 fair = lane.begin();
                                 let answer = fair.answer;
-                                told = Reply::Fair(answer);
+                                answered = Reply::Fair(answer);
                             }
                             Call::End => {
                                 let lane = fair.lane;
                                 fair = lane.end();
                                 let answer = fair.answer;
-                                told = Reply::Fair(answer);
+                                answered = Reply::Fair(answer);
                             }
                         }
-                        w = reply(told, out, w);
+                        w = reply(answered, out, w);
                     }
                     Parsed::NoCommand => {
                         w = no_command(out, w);

@@ -1,14 +1,15 @@
--- Which number no refusal has, and lists of refusals that begin with the flow's number.
+-- Which number no refusal has; what a call gives for a list of grounds: it goes through where none of them holds, and is refused for the
+-- first that does.
 use mathlib.Core.Path.{_≡_, refl, ap}
 use mathlib.Core.Bool.{Bool, true, false, cond}
-use mathlib.Core.List.{List, _∷_}
-use mathlib.Core.Option.{some}
+use mathlib.Core.List.{List, [], _∷_}
+use mathlib.Core.Option.{Option, none, some}
 use Prim.Native.Nat.{ℕ, _≤_}
 use native.Mathlib.Omega.{arith}
 use borrow.Author.Tests.{ltb-false}
 use lib.Dec.{ltb}
 use Rattle.units.specs.Limits.{noSuchFlow}
-use Rattle.units.specs.Refusals.{Ground, numberOf, firstOf}
+use Rattle.units.specs.Refusals.{Ground, numberOf, firstOf, unless}
 use Rattle.units.specs.declared.Refusal.{Refusal}
 use Rattle.units.specs.declared.Refusal.the-variants.{NoSuchFlow, NotOpen, AlreadyOpen, PlacesFull, TagsUsedUp, SlotsUsedUp, PacketInService, NothingWaits, NothingInService, NoCommand, FlowInUse, BadWeight, BadDeadline, BadLength, ListTooLong, BadBurst, BadPeriod}
 
@@ -32,7 +33,7 @@ never-4 ListTooLong e = omega arith
 never-4 BadBurst e = omega arith
 never-4 BadPeriod e = omega arith
 
--- the rest of such a list matters only for a flow that there is
+-- the rest of a list that begins with the flow's number matters only for a flow that there is
 pub after-flow : (flow : ℕ) (xs ys : List Ground) → (flow ≤ 15 → xs ≡ ys)
     → firstOf ((NoSuchFlow, noSuchFlow flow) ∷ xs) ≡ firstOf ((NoSuchFlow, noSuchFlow flow) ∷ ys)
 unfolding firstOf
@@ -41,3 +42,36 @@ after-flow flow xs ys h = go (ltb 15 flow) refl
     go : (t : Bool) → ltb 15 flow ≡ t → cond t (some NoSuchFlow) (firstOf xs) ≡ cond t (some NoSuchFlow) (firstOf ys)
     go true p = refl
     go false p = ap firstOf (h (ltb-false 15 flow p))
+
+-- no ground of a list holds
+abbrev pub NoneHolds : List Ground → Type 0
+NoneHolds [] = Unit {0}
+NoneHolds (g ∷ gs) = (g .1 ≡ false) × NoneHolds gs
+
+module _ {D : Type 0} (refused : Refusal → D) where
+  -- what holds of every refused call, and of a call that goes through where no ground holds, holds of what the call gives
+  pub first-cases : (P : D → Type 0) → ((r : Refusal) → P (refused r)) → (gs : List Ground) (done : D) → (NoneHolds gs → P done) → P (unless refused (firstOf gs) done)
+  unfolding firstOf
+  first-cases P no-way [] done ok = ok tt
+  first-cases P no-way (g ∷ gs) done ok = go (g .1) refl (first-cases P no-way gs done)
+    where
+      go : (b : Bool) → g .1 ≡ b → ((NoneHolds gs → P done) → P (unless refused (firstOf gs) done)) → P (unless refused (cond b (some (g .0)) (firstOf gs)) done)
+      go true p rest = no-way (g .0)
+      go false p rest = rest (λ h. ok (p, h))
+
+  -- what is read off the result as its refusal
+  module _ (refusalOf : D → Option Refusal) where
+    -- a call that is not refused by itself is refused for what applies
+    pub unless-first : ((r : Refusal) → refusalOf (refused r) ≡ some r) → (o : Option Refusal) (done : D) → refusalOf done ≡ none → refusalOf (unless refused o done) ≡ o
+    unless-first told none done e = e
+    unless-first told (some r) done e = told r
+
+    -- a refused call leaves the state as it was
+    pub unless-same : {S : Type 0} (state : D → S) (was : S) → ((r : Refusal) → state (refused r) ≡ was) → (o : Option Refusal) (done : D)
+        → ((r : Refusal) → refusalOf done ≡ some r → state done ≡ was) → (r : Refusal) → refusalOf (unless refused o done) ≡ some r → state (unless refused o done) ≡ was
+    unless-same state was same none done s r q = s r q
+    unless-same state was same (some x) done s r q = same x
+
+-- no refusal is no refusal
+pub none-is-none : (r : Refusal) → none ≡ some r → ⊥
+none-is-none r p = let z : _≡_ {A = ℕ} 0 1 = cc in omega arith

@@ -33,3 +33,8 @@ Ground = Refusal × Bool
 unfoldable pub firstOf : List Ground → Option Refusal
 firstOf [] = none
 firstOf (g ∷ gs) = cond (g .1) (some (g .0)) (firstOf gs)
+
+-- what a call gives: it goes through, unless some refusal applies; then it gives what it gives for that refusal
+abbrev pub unless : {D : Type 0} → (Refusal → D) → Option Refusal → D → D
+unless refused none done = done
+unless refused (some r) done = refused r

@@ -1,54 +1,103 @@
--- The lane's laws, from those of places.
+-- The lane's laws: what an open turn answers is what the least held place holds, and that place leads. A call is refused exactly for the
+-- first of its grounds that holds, and then leaves the lane as it was.
 use mathlib.Core.Path.{_≡_, refl, sym, _∙_}
+use mathlib.Core.Bool.{Bool, true, false, cond}
 use mathlib.Core.Option.{Option, none, some}
 use Prim.Native.Nat.{ℕ}
 use native.Mathlib.Omega.{arith}
-use Rattle.units.specs.Refusals.{firstOf}
+use lib.Dec.{leb}
+use Rattle.units.specs.Limits.{slotLimit}
+use Rattle.units.specs.Refusals.{firstOf, unless}
 use Rattle.units.specs.declared.Refusal.{Refusal}
-use Rattle.places.specs.Choice.{Choice, nothing, at}
+use Rattle.units.specs.declared.Refusal.the-variants.{SlotsUsedUp}
+use Rattle.units.proofs.Refusals.{unless-first, unless-same, none-is-none}
+use Rattle.places.specs.Choice.{Choice, nothing, at, Leads}
 use Rattle.places.proofs.Least.{leads}
 use Rattle.urgent.specs.declared.Cell.{Cell as Place}
 use Rattle.urgent.specs.declared.Urgent.{Urgent}
 use Rattle.urgent.specs.declared.Done.{Done}
+use Rattle.urgent.specs.declared.Answer.the-variants.{Sent, Idle}
 use Rattle.urgent.specs.Lane.{freeCell, isHeld, keyOf, openingGrounds, closingGrounds, offeringGrounds, turnGrounds}
-use Rattle.urgent.specs.Calls.{unless, opened, openOf, closed, closeOf, accepted, offerOf, chosen, turned, turnOf}
+use Rattle.urgent.specs.Calls.{refused, opened, openOf, closed, closeOf, accepted, offerOf, chosen, ended, turned, turnOf}
 use Rattle.urgent.specs.Answers.{refusalIn}
-use Rattle.urgent.specs.Laws.{SendsFirst, RefusedFirst, RefusedSame}
+use Rattle.urgent.specs.Laws.{cellAt, SentFirst, SendsFirst, RefusedFirst, RefusedSame}
 
-pub sends-first : SendsFirst
-sends-first u = leads isHeld keyOf freeCell refl (u .cells)
+-- ---- an open turn
+module _ (u : Urgent) where
+  -- the turn, where it is refused or not and has chosen
+  abbrev byChoice : Bool → Choice Place → Done
+  byChoice late x = unless (refused u) (cond late (some SlotsUsedUp) none) (turned u x)
 
-unless-first : (u : Urgent) (o : Option Refusal) (d : Done) → refusalIn (d .answer) ≡ none → refusalIn (unless u o d .answer) ≡ o
-unless-first u none d e = e
-unless-first u (some r) d e = refl
+  sends : (flow number missed : ℕ) → turnOf u true .answer ≡ Sent flow number missed → SentFirst u flow number
+  unfolding turnOf firstOf
+  sends flow number missed = go (leb slotLimit (u .now .0)) refl (chosen u true) refl
+    where
+      go : (late : Bool) → leb slotLimit (u .now .0) ≡ late → (x : Choice Place) → chosen u true ≡ x
+          → byChoice late x .answer ≡ Sent flow number missed → SentFirst u flow number
+      go true p x q e = absurd (let z : _≡_ {A = ℕ} 0 1 = cc in omega arith)
+      go false p nothing q e = absurd (let z : _≡_ {A = ℕ} 0 1 = cc in omega arith)
+      go false p (at place c) q e =
+          let l : Leads isHeld keyOf freeCell (u .cells) (at place c) = rw q at (leads isHeld keyOf freeCell refl (u .cells)) in
+          record {
+            place = place;
+            within = l .0;
+            waited = rw (l .1) (l .2);
+            flowTold = cc;
+            numberTold = rw (l .1) (cc);
+            goesFirst = rw (l .1) (l .3);
+            freed = rw (p, q) (cc);
+          }
 
-unless-same : (u : Urgent) (o : Option Refusal) (d : Done) → refusalIn (d .answer) ≡ none → (r : Refusal) → refusalIn (unless u o d .answer) ≡ some r → unless u o d .lane ≡ u
-unless-same u none d e r q = absurd (not-both (sym e ∙ q))
-  where
-    not-both : none ≡ some r → ⊥
-    not-both p = let z : _≡_ {A = ℕ} 0 1 = cc in omega arith
-unless-same u (some x) d e r q = refl
+  idles : (missed : ℕ) → turnOf u true .answer ≡ Idle missed → ((place : ℕ) → isHeld (cellAt u place) ≡ false) × (turnOf u true ≡ ended u (u .cells) Idle)
+  unfolding turnOf firstOf
+  idles missed = go (leb slotLimit (u .now .0)) refl (chosen u true) refl
+    where
+      free : (place : ℕ) (t : Bool) → isHeld (cellAt u place) ≡ t → chosen u true ≡ nothing → t ≡ false
+      free place true h q =
+          let l : Leads isHeld keyOf freeCell (u .cells) nothing = rw q at (leads isHeld keyOf freeCell refl (u .cells)) in
+          absurd (l place h)
+      free place false h q = refl
 
-turned-taken : (u : Urgent) (x : Choice Place) → refusalIn (turned u x .answer) ≡ none
-turned-taken u nothing = refl
-turned-taken u (at place c) = refl
+      go : (late : Bool) → leb slotLimit (u .now .0) ≡ late → (x : Choice Place) → chosen u true ≡ x
+          → byChoice late x .answer ≡ Idle missed → ((place : ℕ) → isHeld (cellAt u place) ≡ false) × (turnOf u true ≡ ended u (u .cells) Idle)
+      go true p x q e = absurd (let z : _≡_ {A = ℕ} 0 1 = cc in omega arith)
+      go false p nothing q e = ((λ place. free place (isHeld (cellAt u place)) refl q), rw (p, q))
+      go false p (at place c) q e = absurd (let z : _≡_ {A = ℕ} 0 1 = cc in omega arith)
 
-pub refused-first : (u : Urgent) → RefusedFirst u
-unfolding openOf closeOf offerOf turnOf
-refused-first u =
-    record {
-      opening = λ flow deadline. unless-first u (firstOf (openingGrounds u flow deadline)) (opened u flow deadline) refl;
-      closing = λ flow. unless-first u (firstOf (closingGrounds u flow)) (closed u flow) refl;
-      offering = λ flow. unless-first u (firstOf (offeringGrounds u flow)) (accepted u flow) refl;
-      turning = λ usable. unless-first u (firstOf (turnGrounds u)) (turned u (chosen u usable)) (turned-taken u (chosen u usable));
-    }
+pub sends-first : (u : Urgent) → SendsFirst u
+sends-first u = record { sends = sends u; idles = idles u }
 
-pub refused-same : (u : Urgent) (r : Refusal) → RefusedSame u r
-unfolding openOf closeOf offerOf turnOf
-refused-same u r =
-    record {
-      opening = λ flow deadline. unless-same u (firstOf (openingGrounds u flow deadline)) (opened u flow deadline) refl r;
-      closing = λ flow. unless-same u (firstOf (closingGrounds u flow)) (closed u flow) refl r;
-      offering = λ flow. unless-same u (firstOf (offeringGrounds u flow)) (accepted u flow) refl r;
-      turning = λ usable. unless-same u (firstOf (turnGrounds u)) (turned u (chosen u usable)) (turned-taken u (chosen u usable)) r;
-    }
+-- ---- refused calls
+module _ (u : Urgent) where
+  first : (o : Option Refusal) (d : Done) → refusalIn (d .answer) ≡ none → refusalIn (unless (refused u) o d .answer) ≡ o
+  first = unless-first (refused u) (λ (d : Done). refusalIn (d .answer)) (λ r. refl)
+
+  same : (o : Option Refusal) (d : Done) → refusalIn (d .answer) ≡ none → (r : Refusal)
+      → refusalIn (unless (refused u) o d .answer) ≡ some r → unless (refused u) o d .lane ≡ u
+  same o d e =
+      unless-same (refused u) (λ (d : Done). refusalIn (d .answer)) (λ (d : Done). d .lane) u (λ r. refl) o d
+      (λ r q. absurd (none-is-none r (sym e ∙ q)))
+
+  turned-taken : (x : Choice Place) → refusalIn (turned u x .answer) ≡ none
+  turned-taken nothing = refl
+  turned-taken (at place c) = refl
+
+  pub refused-first : RefusedFirst u
+  unfolding openOf closeOf offerOf turnOf
+  refused-first =
+      record {
+        opening = λ flow deadline. first (firstOf (openingGrounds u flow deadline)) (opened u flow deadline) refl;
+        closing = λ flow. first (firstOf (closingGrounds u flow)) (closed u flow) refl;
+        offering = λ flow. first (firstOf (offeringGrounds u flow)) (accepted u flow) refl;
+        turning = λ usable. first (firstOf (turnGrounds u)) (turned u (chosen u usable)) (turned-taken (chosen u usable));
+      }
+
+  pub refused-same : (r : Refusal) → RefusedSame u r
+  unfolding openOf closeOf offerOf turnOf
+  refused-same r =
+      record {
+        opening = λ flow deadline. same (firstOf (openingGrounds u flow deadline)) (opened u flow deadline) refl r;
+        closing = λ flow. same (firstOf (closingGrounds u flow)) (closed u flow) refl r;
+        offering = λ flow. same (firstOf (offeringGrounds u flow)) (accepted u flow) refl r;
+        turning = λ usable. same (firstOf (turnGrounds u)) (turned u (chosen u usable)) (turned-taken (chosen u usable)) r;
+      }

@@ -1,11 +1,10 @@
 -- What each call of the urgent lane gives, over every state.
 use mathlib.Core.Bool.{Bool, true, false, cond}
 use mathlib.Core.List.{List}
-use mathlib.Core.Option.{Option, none, some}
 use Prim.Native.Nat.{ℕ, _+_, _-_, _*_, _%_, _^_}
 use lib.ListN.{set}
 use Rattle.units.specs.Limits.{placeCount}
-use Rattle.units.specs.Refusals.{firstOf}
+use Rattle.units.specs.Refusals.{firstOf, unless}
 use Rattle.units.specs.declared.Refusal.{Refusal}
 use Rattle.places.specs.Places.{count, placesOf, flowOf, firstFree, clearedAll}
 use Rattle.places.specs.Choice.{Choice, nothing, at, leastHeld}
@@ -21,11 +20,6 @@ use Rattle.urgent.specs.Lane.{freeCell, isHeld, flowAt, keyOf, lastIs, o
 abbrev pub refused : Urgent → Refusal → Done
 refused u r = record { lane = u; answer = Refused r }
 
--- a call goes through unless some refusal applies
-abbrev pub unless : Urgent → Option Refusal → Done → Done
-unless u none done = done
-unless u (some r) done = refused u r
-
 -- the lane with another record of a flow
 abbrev pub withFlow : Urgent → ℕ → Flow → Urgent
 withFlow u flow x = record { now = u .now; flows = set (u .flows) flow x; cells = u .cells }
@@ -37,7 +31,7 @@ opened u flow deadline =
 
 -- what opening a flow with a deadline gives
 unfoldable pub openOf : Urgent → ℕ → ℕ → Done
-openOf u flow deadline = unless u (firstOf (openingGrounds u flow deadline)) (opened u flow deadline)
+openOf u flow deadline = unless (refused u) (firstOf (openingGrounds u flow deadline)) (opened u flow deadline)
 
 -- closing: the flow's record keeps its deadline and its numbers, and loses its mark
 abbrev pub closed : Urgent → ℕ → Done
@@ -49,7 +43,7 @@ closed u flow =
 
 -- what closing a flow gives
 unfoldable pub closeOf : Urgent → ℕ → Done
-closeOf u flow = unless u (firstOf (closingGrounds u flow)) (closed u flow)
+closeOf u flow = unless (refused u) (firstOf (closingGrounds u flow)) (closed u flow)
 
 -- the last slot of the window of a cell offered now, which is now to now + deadline - 1
 abbrev pub lastSlot : Urgent → ℕ → ℕ
@@ -74,7 +68,7 @@ accepted u flow =
 
 -- what offering a cell of a flow gives
 unfoldable pub offerOf : Urgent → ℕ → Done
-offerOf u flow = unless u (firstOf (offeringGrounds u flow)) (accepted u flow)
+offerOf u flow = unless (refused u) (firstOf (offeringGrounds u flow)) (accepted u flow)
 
 -- a turn's end: the waiting cells whose last slot is now are dropped and counted as missed, and now moves by one
 abbrev pub ended : Urgent → List Cell → (ℕ → Answer) → Done
@@ -100,4 +94,4 @@ turned u (at place c) = ended u (set (u .cells) place freeCell) (Sent (flowOf pl
 
 -- what a turn gives, open or lost
 unfoldable pub turnOf : Urgent → Bool → Done
-turnOf u usable = unless u (firstOf (turnGrounds u)) (turned u (chosen u usable))
+turnOf u usable = unless (refused u) (firstOf (turnGrounds u)) (turned u (chosen u usable))

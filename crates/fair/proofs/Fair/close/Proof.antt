@@ -5,9 +5,9 @@ use mathlib.Core.Logic.{⊎-elim}
 use Prim.Native.Nat.{_+_, _-_, _*_, _≤_, _<_}
 use native.Mathlib.Omega.{arith}
 use borrow.Author.Needs.{needs}
-use lib.ListN.{length, take, length-map}
-use Rattle.places.specs.Places.{count, placesOf}
-use Rattle.places.proofs.Free.{part-more, part-same, part-ends}
+use lib.ListN.{length, length-map}
+use Rattle.places.specs.Places.{count}
+use Rattle.places.proofs.Free.{Tallied, tallied-more, tallied-same, tallied-ends}
 use Rattle.tags.specs.Tags.{isHeld, freePacket}
 use Rattle.fair.specs.Lane.{waitingOf}
 use Rattle.fair.proofs.Calls.{close-1, close-2, close-waits, close-serves, close-ok}
@@ -15,7 +15,7 @@ use Rattle.fair.proofs.Fair.close.Statement.{statement}
 use Rattle.fair.proofs.Fair.close.Tie as tie
 
 abbrev Inv-loop : tie.InvT-loop
-Inv-loop self flow f flows was packets n₀ i₀ n i = (i ≤ 16) × (n ≤ i) × (n ≡ count isHeld (take i (placesOf 16 f packets)))
+Inv-loop self flow f flows was packets n₀ i₀ n i = Tallied isHeld packets (f * 16) 16 i n
 
 abbrev μ-loop : tie.MeasureT-loop
 μ-loop self flow f flows was packets n₀ i₀ n i = 16 - i
@@ -28,8 +28,8 @@ counted : (a : tie.After-loop Inv-loop μ-loop)
     → a .before .loop .waiting ≡ waitingOf (a .before .before .before .before .before .before .before .before .args .self) (a .before .before .before .before .before .before .before .before .args .flow)
 counted a =
     let start = a .before .before .before .before .before .before .before .before in
-    part-ends isHeld freePacket (start .args .self .packets) (start .args .flow * 16) 16 (omega (arith, packets-known start))
-    (a .before .loop .i) (a .before .loop .waiting) (a .before .loop .inv .2) (a .loop-test .left)
+    tallied-ends isHeld freePacket (start .args .self .packets) (start .args .flow * 16) 16 (omega (arith, packets-known start))
+    (a .before .loop .i) (a .before .loop .waiting) (a .before .loop .inv) (a .loop-test .left)
 
 returns : tie.Need-returns Inv-loop μ-loop
 returns c = close-1 (c .before .args .self) (c .before .args .flow) (search needs)
@@ -78,8 +78,8 @@ loop-again c =
     let i = at .loop .i in
     let h : i < 16 = search needs in
     let fits : f * 16 + 16 ≤ length packets = omega (arith, packets-known start) in
-    ⊎-elim (λ w. rw (w .1) (search needs, search needs, part-more isHeld freePacket packets (f * 16) 16 fits i n h (at .loop .inv .2) (w .0 .taken)))
-    (λ w. rw (w .1) (search needs, search needs, part-same isHeld freePacket packets (f * 16) 16 fits i n h (at .loop .inv .2) (w .0 .left)))
+    ⊎-elim (λ w. rw (w .1) (tallied-more isHeld freePacket packets (f * 16) 16 fits i n h (at .loop .inv) (w .0 .taken)))
+    (λ w. rw (w .1) (tallied-same isHeld freePacket packets (f * 16) 16 fits i n h (at .loop .inv) (w .0 .left)))
     (c .if3 .came)
 
 returns-3 : tie.Need-returns-3 Inv-loop μ-loop

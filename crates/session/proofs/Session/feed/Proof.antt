@@ -117,7 +117,7 @@ loop-less : tie.Need-loop-less Inv-loop μ-loop
 loop-less c = search needs
 
 -- the arm of the line's call goes as the station's call
-calls : (c : tie.At-match2-came Inv-loop μ-loop) → let l = c .before .before .before .before .before .before .before .before .before .loop in called (c .match2 .urgent) (c .match2 .fair) (c .match2 .told) ≡ callOf (lanes (l .urgent) (l .fair)) (c .before .before .call .given .0 .0)
+calls : (c : tie.At-match2-came Inv-loop μ-loop) → let l = c .before .before .before .before .before .before .before .before .before .loop in called (c .match2 .urgent) (c .match2 .fair) (c .match2 .answered) ≡ callOf (lanes (l .urgent) (l .fair)) (c .before .before .call .given .0 .0)
 unfolding callOf
 calls c =
     let l = c .before .before .before .before .before .before .before .before .before .loop in

@@ -5,16 +5,16 @@ use mathlib.Core.Logic.{⊎-elim}
 use Prim.Native.Nat.{_+_, _-_, _*_, _≤_, _<_}
 use native.Mathlib.Omega.{arith}
 use borrow.Author.Needs.{needs}
-use lib.ListN.{length, take, length-map}
-use Rattle.places.specs.Places.{count, placesOf}
-use Rattle.places.proofs.Free.{part-more, part-same, part-ends}
+use lib.ListN.{length, length-map}
+use Rattle.places.specs.Places.{count}
+use Rattle.places.proofs.Free.{Tallied, tallied-more, tallied-same, tallied-ends}
 use Rattle.urgent.specs.Lane.{isHeld, freeCell, waitingOf}
 use Rattle.urgent.proofs.Calls.{close-1, close-2, close-12, close-ok}
 use Rattle.urgent.proofs.Urgent.close.Statement.{statement}
 use Rattle.urgent.proofs.Urgent.close.Tie as tie
 
 abbrev Inv-loop : tie.InvT-loop
-Inv-loop self flow f flows was cells n₀ i₀ n i = (i ≤ 16) × (n ≤ i) × (n ≡ count isHeld (take i (placesOf 16 f cells)))
+Inv-loop self flow f flows was cells n₀ i₀ n i = Tallied isHeld cells (f * 16) 16 i n
 
 abbrev μ-loop : tie.MeasureT-loop
 μ-loop self flow f flows was cells n₀ i₀ n i = 16 - i
@@ -27,8 +27,8 @@ counted : (a : tie.After-loop Inv-loop μ-loop)
     → a .before .loop .waiting ≡ waitingOf (a .before .before .before .before .before .before .before .before .args .self) (a .before .before .before .before .before .before .before .before .args .flow)
 counted a =
     let start = a .before .before .before .before .before .before .before .before in
-    part-ends isHeld freeCell (start .args .self .cells) (start .args .flow * 16) 16 (omega (arith, cells-known start))
-    (a .before .loop .i) (a .before .loop .waiting) (a .before .loop .inv .2) (a .loop-test .left)
+    tallied-ends isHeld freeCell (start .args .self .cells) (start .args .flow * 16) 16 (omega (arith, cells-known start))
+    (a .before .loop .i) (a .before .loop .waiting) (a .before .loop .inv) (a .loop-test .left)
 
 returns : tie.Need-returns Inv-loop μ-loop
 returns c = close-1 (c .before .args .self) (c .before .args .flow) (search needs)
@@ -77,8 +77,8 @@ loop-again c =
     let i = at .loop .i in
     let h : i < 16 = search needs in
     let fits : f * 16 + 16 ≤ length cells = omega (arith, cells-known start) in
-    ⊎-elim (λ w. rw (w .1) (search needs, search needs, part-more isHeld freeCell cells (f * 16) 16 fits i n h (at .loop .inv .2) (w .0 .taken)))
-    (λ w. rw (w .1) (search needs, search needs, part-same isHeld freeCell cells (f * 16) 16 fits i n h (at .loop .inv .2) (w .0 .left)))
+    ⊎-elim (λ w. rw (w .1) (tallied-more isHeld freeCell cells (f * 16) 16 fits i n h (at .loop .inv) (w .0 .taken)))
+    (λ w. rw (w .1) (tallied-same isHeld freeCell cells (f * 16) 16 fits i n h (at .loop .inv) (w .0 .left)))
     (c .if3 .came)
 
 returns-3 : tie.Need-returns-3 Inv-loop μ-loop
