@@ -7,8 +7,8 @@ use Rattle.admission.specs.Verdicts.{firstBad}
 use Rattle.urgent.specs.Calls.{openOf as openUrgentOf}
 use Rattle.fair.specs.Calls.{openOf, offerOf}
 use Rattle.station.specs.Calls.{callOf}
-use Rattle.lines.specs.Reading.{readOn}
-use Rattle.lines.proofs.Decimal.{decimal-digit}
+use Rattle.text.specs.Reading.{readOn}
+use Rattle.text.proofs.Decimal.{decimal-digit}
 use Rattle.session.specs.Whole.{linesOf, answersOf}
 use Rattle.cases.specs.Table.{toldBy}
 use Rattle.units.specs.Texts.{bytesOf}

@@ -10,8 +10,8 @@ use Rattle.urgent.specs.Calls.{closeOf as closeUrgentOf}
 use Rattle.urgent.specs.Calls.{offerOf as offerCellOf}
 use Rattle.fair.specs.Calls.{openOf, closeOf, offerOf, beginOf, endOf}
 use Rattle.station.specs.Calls.{callOf}
-use Rattle.lines.specs.Reading.{readOn}
-use Rattle.lines.proofs.Decimal.{decimal-digit}
+use Rattle.text.specs.Reading.{readOn}
+use Rattle.text.proofs.Decimal.{decimal-digit}
 use Rattle.session.specs.Whole.{linesOf, answersOf}
 use Rattle.cases.specs.Table.{toldBy}
 use Rattle.units.specs.Texts.{bytesOf}

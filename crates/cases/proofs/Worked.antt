@@ -11,9 +11,9 @@ use Rattle.urgent.specs.Calls.{openOf as openUrgentOf}
 use Rattle.urgent.specs.Calls.{offerOf as offerCellOf}
 use Rattle.fair.specs.Calls.{openOf, offerOf, beginOf, endOf}
 use Rattle.station.specs.Calls.{callOf}
-use Rattle.lines.specs.Grammar.{decimalOf}
-use Rattle.lines.specs.Reading.{readOn}
-use Rattle.lines.proofs.Decimal.{decimal-snoc, decimal-digit}
+use Rattle.text.specs.Decimal.{decimalOf}
+use Rattle.text.specs.Reading.{readOn}
+use Rattle.text.proofs.Decimal.{decimal-snoc, decimal-digit}
 use Rattle.session.specs.Whole.{linesOf, answersOf}
 use Rattle.units.specs.Texts.{bytesOf}
 use Rattle.cases.specs.Worked.{Worked}

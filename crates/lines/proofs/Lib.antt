@@ -1,3 +1,2 @@
-pub mod Decimal
 pub mod Texts
-pub mod Fields
+pub mod Ways

@@ -1,24 +1,10 @@
 -- The commands of a session as text. Every call has one text; a byte is its number in ASCII.
-use mathlib.Core.Bool.{cond}
 use mathlib.Core.List.{List, [], _∷_, _++_}
-use Prim.Native.Nat.{ℕ, zero, suc, _+_, _/_, _%_, _≤_}
-use lib.Dec.{ltb}
+use Prim.Native.Nat.{ℕ, _≤_}
+use Rattle.text.specs.Decimal.{decimalOf}
+use Rattle.text.specs.Reading.{blank, largest}
 use Rattle.station.specs.declared.Call.{Call}
 use Rattle.station.specs.declared.Call.the-variants.{OpenUrgent, OpenFair, CloseUrgent, CloseFair, OfferCell, OfferPacket, OpenTurn, LostTurn, Begin, End}
-
--- what stands between two fields of a line
-abbrev pub blank : ℕ
-blank = 32
-
--- a number's decimal text, its first digit first and with no zero in front: the text of its tenth, where that is not 0, and the
--- last digit; the steps that it may take are more than the digits that it has
-unfoldable pub decimalWithin : ℕ → ℕ → List ℕ
-decimalWithin zero n = (48 + n) ∷ []
-decimalWithin (suc steps) n = cond (ltb n 10) ((48 + n) ∷ []) (decimalWithin steps (n / 10) ++ (48 + n % 10) ∷ [])
-
--- the one decimal text of a number
-unfoldable pub decimalOf : ℕ → List ℕ
-decimalOf n = decimalWithin n n
 
 -- the letters U F C c u f t x b e
 abbrev pub bigU : ℕ
@@ -63,10 +49,6 @@ textOf OpenTurn = smallT ∷ []
 textOf LostTurn = smallX ∷ []
 textOf Begin = smallB ∷ []
 textOf End = smallE ∷ []
-
--- the largest number that a line may hold
-abbrev pub largest : ℕ
-largest = 4294967295
 
 -- each number of a call is one that a line may hold
 abbrev pub Small : Call → Type 0

@@ -1,44 +1,17 @@
 -- What a line is read as, byte by byte, and the law by which a reader may go instead: a line is read as a call exactly where it is the call's one text.
-use mathlib.Core.Bool.{Bool, cond, _&&_}
+use mathlib.Core.Bool.{cond}
 use mathlib.Core.List.{List, [], _∷_}
 use mathlib.Core.Option.{Option, none, some}
 use mathlib.Core.Path.{_≡_}
-use Prim.Native.Nat.{ℕ, _+_, _-_, _*_, _≤_}
-use lib.Dec.{leb, eqb}
-use lib.ListN.{length, drop}
+use Prim.Native.Nat.{ℕ, _≤_}
+use lib.Dec.{eqb}
+use lib.ListN.{length}
+use Rattle.text.specs.Reading.{blank, Taken, readNumber}
 use Rattle.station.specs.declared.Call.{Call}
 use Rattle.station.specs.declared.Call.the-variants.{OpenUrgent, OpenFair, CloseUrgent, CloseFair, OfferCell, OfferPacket, OpenTurn, LostTurn, Begin, End}
 use Rattle.lines.specs.declared.Parsed.{Parsed}
 use Rattle.lines.specs.declared.Parsed.the-variants.{Command, NoCommand}
-use Rattle.lines.specs.declared.parsing.Field.{Field}
-use Rattle.lines.specs.declared.parsing.Field.the-variants.{Number, Missing}
-use Rattle.lines.specs.Grammar.{blank, largest, bigU, bigF, bigC, smallC, smallU, smallF, smallT, smallX, smallB, smallE, textOf, Small}
-
--- a byte is one of the digits 0 to 9
-abbrev pub isDigit : ℕ → Bool
-isDigit b = leb 48 b && leb b 57
-
--- the number with one digit more
-abbrev pub grown : ℕ → ℕ → ℕ
-grown value b = value * 10 + (b - 48)
-
--- a number goes on with a digit where it is not 0 so far and stays within the largest
-abbrev pub goesOn : ℕ → ℕ → Bool
-goesOn value b = isDigit b && (leb 1 value && leb (grown value b) largest)
-
--- a number and what follows it
-abbrev pub Taken : Type 0
-Taken = ℕ × List ℕ
-
--- the rest of a number, up to a blank or the end
-unfoldable pub readOn : ℕ → List ℕ → Option Taken
-readOn value [] = some (value, [])
-readOn value (b ∷ bs) = cond (eqb b blank) (some (value, b ∷ bs)) (cond (goesOn value b) (readOn (grown value b) bs) none)
-
--- a number at the start of some bytes; its first byte is a digit
-abbrev pub readNumber : List ℕ → Option Taken
-readNumber [] = none
-readNumber (b ∷ bs) = cond (isDigit b) (readOn (b - 48) bs) none
+use Rattle.lines.specs.Grammar.{bigU, bigF, bigC, smallC, smallU, smallF, smallT, smallX, smallB, smallE, textOf, Small}
 
 -- the command of a letter alone
 abbrev pub wordOf : ℕ → Option Call
@@ -93,8 +66,3 @@ ReadsOneText =
 -- No call's text is longer than 23 bytes, so that no limit of 32 bytes shuts one out.
 abbrev pub TextsFit : Type 0
 TextsFit = (c : Call) → Small c → length (textOf c) ≤ 23
-
--- a field of a line as it was taken: its number, and the place from which the rest stands
-abbrev pub Reads : List ℕ → Field → Option Taken → Type 0
-Reads line (Number value next) taken = (next ≤ length line) × (taken ≡ some (value, drop next line))
-Reads line Missing taken = taken ≡ none

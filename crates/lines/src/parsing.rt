@@ -1,19 +1,9 @@
 // Reading a line: a letter, and up to two numbers with one blank before each.
 ghost use mathlib.Core.Path.{_≡_};
-ghost use Prim.Native.Nat.{_≤_};
-ghost use lib.ListN.{length, drop};
-ghost use Rattle.lines.specs.Reading.{isDigit, goesOn, readNumber, wordOf, oneOf, twoOf, readCall, parsedOf, Reads};
+ghost use Rattle.lines.specs.Reading.{wordOf, oneOf, twoOf, readCall, parsedOf};
 use crate::Parsed;
 use station::Call;
-
-// The largest number that a line may hold.
-const LARGEST: u64 = 4_294_967_295;
-
-// A number and the place where it ends, or none.
-enum Field {
-    Number(u64, usize),
-    Missing,
-}
+use text::Field;
 
 // What a line asks of the station.
 pub fn parse(line: &[u8]) -> Parsed
@@ -30,12 +20,12 @@ pub fn parse(line: &[u8]) -> Parsed
     if line[1] != 32 {
         return Parsed::NoCommand;
     }
-    match number(line, 2) {
+    match text::number(line, 2) {
         Field::Number(a, p) => {
             if n <= p {
                 return one(letter, a);
             }
-            match number(line, p + 1) {
+            match text::number(line, p + 1) {
                 Field::Number(b, q) => {
                     if n <= q {
                         return two(letter, a, b);
@@ -47,59 +37,6 @@ pub fn parse(line: &[u8]) -> Parsed
         }
         Field::Missing => Parsed::NoCommand,
     }
-}
-
-// The number that starts at a place and ends before the next blank, or with the line.
-fn number(line: &[u8], from: usize) -> Field
-    requires { ⌜ from ≤ length (now line) ⌝ }
-    ensures { λ r. ⌜ Reads (now (line .entry)) r (readNumber (drop from (now (line .entry)))) ⌝ }
-{
-    let n = line.len();
-    if n <= from {
-        return Field::Missing;
-    }
-    let first = line[from];
-    if !digit(first) {
-        return Field::Missing;
-    }
-    let mut value = (first - 48) as u64;
-    let mut i = from + 1;
-    while i < n {
-        let b = line[i];
-        if b == 32 {
-            return Field::Number(value, i);
-        }
-        if !goes_on(value, b) {
-            return Field::Missing;
-        }
-        value = value * 10 + (b - 48) as u64;
-        i += 1;
-    }
-    Field::Number(value, i)
-}
-
-// Whether a byte is a digit.
-fn digit(b: u8) -> bool
-    ensures { λ r. ⌜ r ≡ isDigit b ⌝ }
-{
-    if b < 48 {
-        return false;
-    }
-    b <= 57
-}
-
-// Whether a number goes on with this byte: no zero stands in front, and it stays within the largest.
-fn goes_on(value: u64, b: u8) -> bool
-    requires { ⌜ value ≤ 4294967295 ⌝ }
-    ensures { λ r. ⌜ r ≡ goesOn value b ⌝ }
-{
-    if !digit(b) {
-        return false;
-    }
-    if value < 1 {
-        return false;
-    }
-    value * 10 + (b - 48) as u64 <= LARGEST
 }
 
 // A command of one letter.

@@ -1,8 +1,6 @@
--- The line that each reply is written as: a word, each field after one blank, and a line feed.
-use mathlib.Core.List.{List, [], _∷_, _++_}
-use mathlib.Core.Path.{_≡_}
-use Prim.Native.Nat.{ℕ, _+_, _≤_}
-use lib.ListN.{length, take, drop}
+-- The line that each reply is written as: a word and its fields.
+use mathlib.Core.List.{List, [], _∷_}
+use Prim.Native.Nat.{ℕ}
 use Rattle.units.specs.declared.Refusal.{Refusal}
 use Rattle.units.specs.declared.Refusal.the-variants.{NoCommand}
 use Rattle.units.specs.Refusals.{numberOf}
@@ -12,11 +10,8 @@ use Rattle.fair.specs.declared.Answer as fair
 use Rattle.fair.specs.declared.Answer.the-variants.{Refused as Refused', Opened as Opened', Closed as Closed', Accepted as Accepted', Begun, Ended}
 use Rattle.station.specs.declared.Reply.{Reply}
 use Rattle.station.specs.declared.Reply.the-variants.{Urgent, Fair}
-use Rattle.lines.specs.Grammar.{blank, decimalOf}
-
--- what ends every line
-abbrev pub lineFeed : ℕ
-lineFeed = 10
+use Rattle.text.specs.Decimal.{decimalOf}
+use Rattle.text.specs.Lines.{lineWith}
 
 -- the words ok, no, sent, idle and missed
 abbrev pub okWord : List ℕ
@@ -33,15 +28,6 @@ idleWord = 105 ∷ 100 ∷ 108 ∷ 101 ∷ []
 
 abbrev pub missedWord : List ℕ
 missedWord = 109 ∷ 105 ∷ 115 ∷ 115 ∷ 101 ∷ 100 ∷ []
-
--- each field after one blank, and a line feed
-abbrev pub fieldsOf : List (List ℕ) → List ℕ
-fieldsOf [] = lineFeed ∷ []
-fieldsOf (field ∷ fields) = blank ∷ (field ++ fieldsOf fields)
-
--- a word and its fields
-abbrev pub lineWith : List ℕ → List (List ℕ) → List ℕ
-lineWith word fields = word ++ fieldsOf fields
 
 -- a refusal tells its number and nothing else
 abbrev pub refusalLine : Refusal → List ℕ
@@ -82,16 +68,6 @@ abbrev pub lineOf : Reply → List ℕ
 lineOf (Urgent answer) = urgentLine answer
 lineOf (Fair answer) = fairLine answer
 
--- the text stands at the start of what was there, the rest is as it was, and the count is the text's length; that nothing grew
--- and that the count fits follow for text that fits, and are said for those who call
-pub record Printed (text was is : List ℕ) (count : ℕ) : Type 0 where
-  pub bytes : is ≡ text ++ drop (length text) was
-  pub counted : count ≡ length text
-  pub long : length is ≡ length was
-  pub fits : count ≤ length is
-
--- the text stands from a place on, and the place after it is handed back
-pub record Put (text was : List ℕ) (place : ℕ) (is : List ℕ) (next : ℕ) : Type 0 where
-  pub bytes : is ≡ take place was ++ (text ++ drop (place + length text) was)
-  pub counted : next ≡ place + length text
-  pub long : length is ≡ length was
+-- room that every line has enough of
+abbrev pub longest : ℕ
+longest = 96

@@ -6,7 +6,7 @@ use Prim.Native.Nat.{ℕ, suc, _+_, _-_, _≤_, _<_}
 use native.Mathlib.Numerals.{add-one}
 use native.Mathlib.Omega.{arith}
 use borrow.Author.Tests.{eq-eqb, ne-eqb, lt-ltb, le-ltb}
-use lib.ListN.{length, take, drop, getD, set, length-append, length-take, length-drop, drop-of-length-le, take-append-drop}
+use lib.ListN.{length, take, drop, getD, set, length-append, drop-of-length-le}
 use lib.Seq.{take-suc, drop-cons, take-at, drop-at, drop-drop}
 use Rattle.urgent.specs.declared.Done.{Done as UrgentDone}
 use Rattle.fair.specs.declared.Done.{Done as FairDone}
@@ -18,10 +18,12 @@ use Rattle.station.specs.declared.Station.{Station}
 use Rattle.lines.specs.declared.Parsed.{Parsed}
 use Rattle.lines.specs.declared.Parsed.the-variants.{Command, NoCommand}
 use Rattle.lines.specs.Reading.{parsedOf}
-use Rattle.replies.specs.Printing.{Put, Printed, lineFeed, noCommandLine, lineOf}
+use Rattle.text.specs.Lines.{lineFeed, Put, Printed}
+use Rattle.text.proofs.Placing.{put-fits}
+use Rattle.replies.specs.Printing.{noCommandLine, lineOf, longest}
 use Rattle.session.specs.declared.Session.{Session}
 use Rattle.session.specs.declared.Fed.{Fed}
-use Rattle.session.specs.Steps.{Step, keptAs, stepOf, after, fedOf, finishOf, longest, takenOf, Feeds}
+use Rattle.session.specs.Steps.{Step, keptAs, stepOf, after, fedOf, finishOf, takenOf, Feeds}
 
 -- what was parsed, read back
 pub asked : (o : Option Call) (r : Parsed) (c : Call) → r ≡ parsedOf o → r ≡ Command c → o ≡ some c
@@ -92,11 +94,6 @@ going-starts s input was =
     let z : length was - 0 ≡ length was = omega arith in
     record { left = rw z (omega arith); session = refl; written = refl; bytes = refl; long = refl; fits = omega arith }
 
-put-fits : {text was is : List ℕ} {place next : ℕ} → Put text was place is next → place ≤ length was → next ≤ length was
-put-fits {text} {was} {is} {place} {next} p l =
-    let e : length is ≡ length (take place was) + (length text + length (drop (place + length text) was)) = ap length (p .bytes) ∙ simp length-append in
-    omega (arith, p .counted, p .long, length-take place was, length-drop (place + length text) was)
-
 pub going-on : {s : Session} {input was is : List ℕ} {now : Session} {i w : ℕ} → Going s input was is now i w → i < length input → longest ≤ length was - w
     → (t : Step) → stepOf now (getD input i 0) ≡ t → {is' : List ℕ} {w' : ℕ} → Put (t .text) is w is' w' → Going s input was is' (t .session) (i + 1) w'
 going-on {s} {input} {was} {is} {now} {i} {w} g l h t e {is'} {w'} p =
@@ -160,12 +157,6 @@ at-end {s} {input} {was} {is} {now} {i} {w} g l h = going-ends g l (taken-end no
 pub at-full : {s : Session} {input was is : List ℕ} {now : Session} {i w : ℕ} → Going s input was is now i w → i ≤ length input → length was - w < longest
     → Feeds s input was is (record { session = now; read = i; written = w })
 at-full {s} {input} {was} {is} {now} {i} {w} g l h = going-ends g l (taken-full now (drop i input) (length was - w) h)
-
--- a byte for which nothing is written
-pub put-nothing : (is : List ℕ) (place : ℕ) → Put [] is place is place
-put-nothing is place =
-    let z : place + 0 ≡ place = omega arith in
-    record { bytes = rw z (sym (take-append-drop place is)); counted = sym z; long = refl }
 
 -- the end of the input
 pub finish-empty : (s : Session) (out : List ℕ) → s .count ≡ 0 → Printed (finishOf s) out out 0

@@ -11,11 +11,12 @@ use borrow.Author.Tests.{eq-eqb, ne-eqb, le-ltb, lt-leb, eqb-true, eqb-false}
 use lib.Dec.{eqb}
 use lib.ListN.{length, take, set, length-append, length-set}
 use lib.Seq.{take-suc-set}
-use Rattle.replies.specs.Printing.{lineFeed}
+use Rattle.text.specs.Lines.{lineFeed}
+use Rattle.replies.specs.Printing.{longest}
 use Rattle.session.specs.declared.Session.{Session}
 use Rattle.session.specs.declared.Fed.{Fed}
 use Rattle.session.specs.Whole.{onto, linesOf, heardAs, answerOf, answersOf}
-use Rattle.session.specs.Steps.{Step, freshSession, keptAs, answeredBy, ended, stepOf, fedOf, finishOf, longest, takenOf, Feeds}
+use Rattle.session.specs.Steps.{Step, freshSession, keptAs, answeredBy, ended, stepOf, fedOf, finishOf, takenOf, Feeds}
 use Rattle.session.specs.Laws.{joined, fedPieces, FedInPieces, TakesOn}
 use Rattle.session.proofs.Going.{fed-append, step-kept, step-long}
 

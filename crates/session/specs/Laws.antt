@@ -5,7 +5,8 @@ use Prim.Native.Nat.{ℕ, _+_, _≤_, _<_}
 use lib.ListN.{length}
 use Rattle.session.specs.declared.Session.{Session}
 use Rattle.session.specs.Whole.{sessionOf}
-use Rattle.session.specs.Steps.{Step, freshSession, after, fedOf, finishOf, longest, takenOf}
+use Rattle.replies.specs.Printing.{longest}
+use Rattle.session.specs.Steps.{Step, freshSession, after, fedOf, finishOf, takenOf}
 
 -- the pieces as one input
 unfoldable pub joined : List (List ℕ) → List ℕ

@@ -9,7 +9,8 @@ use lib.ListN.{length, take, drop, set, replicate}
 use Rattle.station.specs.Calls.{freshStation}
 use Rattle.station.specs.declared.Call.{Call}
 use Rattle.lines.specs.Reading.{readCall}
-use Rattle.replies.specs.Printing.{lineFeed}
+use Rattle.text.specs.Lines.{lineFeed}
+use Rattle.replies.specs.Printing.{longest}
 use Rattle.session.specs.declared.Session.{Session}
 use Rattle.session.specs.declared.Fed.{Fed}
 use Rattle.session.specs.Whole.{Answered, answerOf}
@@ -57,10 +58,6 @@ fedOf s (b ∷ bs) = after (stepOf s b) (fedOf (stepOf s b .session) bs)
 -- at the end of the input a line that has a byte is answered as if it had its line feed
 abbrev pub finishOf : Session → List ℕ
 finishOf s = cond (eqb (s .count) 0) [] (answeredBy s .text)
-
--- room that every line has enough of
-abbrev pub longest : ℕ
-longest = 96
 
 -- how many bytes are taken of an input: each while there is room for one more line
 unfoldable pub takenOf : Session → List ℕ → ℕ → ℕ

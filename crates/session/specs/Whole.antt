@@ -9,7 +9,8 @@ use Rattle.station.specs.Calls.{freshStation, callOf}
 use Rattle.station.specs.declared.Station.{Station}
 use Rattle.station.specs.declared.Call.{Call}
 use Rattle.lines.specs.Reading.{readCall}
-use Rattle.replies.specs.Printing.{lineFeed, noCommandLine, lineOf}
+use Rattle.text.specs.Lines.{lineFeed}
+use Rattle.replies.specs.Printing.{noCommandLine, lineOf}
 
 -- the lines with one byte more in front of the first
 abbrev pub onto : ℕ → List (List ℕ) → List (List ℕ)

@@ -1,9 +1,10 @@
 // What a line is answered: the call that its bytes ask for, and the reply written into the output.
 ghost use mathlib.Core.Path.{_≡_};
 ghost use Prim.Native.Nat.{_+_, _≤_};
-ghost use lib.ListN.{length, take};
+ghost use lib.ListN.{length};
 ghost use Rattle.lines.specs.Reading.{parsedOf};
-ghost use Rattle.replies.specs.Printing.{Put, noCommandLine, lineOf};
+ghost use Rattle.text.specs.Lines.{Put};
+ghost use Rattle.replies.specs.Printing.{noCommandLine, lineOf};
 ghost use Rattle.session.specs.Steps.{keptAs};
 use lines::Parsed;
 use station::Reply;
@@ -24,9 +25,7 @@ pub(crate) fn reply(answered: Reply, out: &mut [u8], at: usize) -> usize
     requires { ⌜ at + 96 ≤ length (now out) ⌝ }
     ensures { λ r. ⌜ Put (lineOf answered) (now (out .entry)) at (now (out .exit)) r ⌝ }
 {
-    let mut text = [0u8; 96];
-    let n = replies::print(answered, &mut text);
-    place(text, n, out, at)
+    replies::print(answered, out, at)
 }
 
 // Puts the line for no command, a refusal as any, into the output at a place, and answers the place after it.
@@ -36,14 +35,4 @@ pub(crate) fn no_command(out: &mut [u8], at: usize) -> usize
 {
     let refused = urgent::Answer::Refused(Refusal::NoCommand);
     reply(Reply::Urgent(refused), out, at)
-}
-
-// Puts the first n bytes of a text into the output at a place, and answers the place after them.
-fn place(text: [u8; 96], n: usize, out: &mut [u8], at: usize) -> usize
-    requires { ⌜ n ≤ 96 ⌝ }
-    requires { ⌜ at + 96 ≤ length (now out) ⌝ }
-    ensures { λ r. ⌜ Put (take n text) (now (out .entry)) at (now (out .exit)) r ⌝ }
-{
-    bytes::copy(&text[..n], &mut out[at..]);
-    at + n
 }

@@ -2,7 +2,7 @@
 mod answering;
 
 ghost use mathlib.Core.Path.{_≡_};
-ghost use Rattle.replies.specs.Printing.{Printed};
+ghost use Rattle.text.specs.Lines.{Printed};
 ghost use Rattle.session.specs.Steps.{freshSession, finishOf, Feeds};
 use answering::no_command;
 use answering::read;

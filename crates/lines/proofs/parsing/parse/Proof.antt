@@ -2,7 +2,8 @@
 use mathlib.Core.Path.{sym, _∙_, ap}
 use borrow.Author.Needs.{needs}
 use Rattle.lines.specs.Reading.{parsedOf}
-use Rattle.lines.proofs.Fields.{found, missed, line-empty, line-word, line-joined, line-missing, line-one, second-missing, line-two, line-long}
+use Rattle.text.proofs.Fields.{found, missed}
+use Rattle.lines.proofs.Ways.{line-empty, line-word, line-joined, line-missing, line-one, second-missing, line-two, line-long}
 use Rattle.lines.proofs.parsing.parse.Statement.{statement}
 use Rattle.lines.proofs.parsing.parse.Tie as tie
 

@@ -7,7 +7,8 @@ use native.Mathlib.Omega.{arith}
 use borrow.Author.Needs.{needs}
 use lib.ListN.{length, getD}
 use Rattle.station.specs.Calls.{byUrgent, byFair, callOf}
-use Rattle.session.proofs.Going.{Going, lanes, called, together, answered, going-starts, going-on, arrived, at-end, at-full, put-nothing, step-call, step-none, step-kept, step-long}
+use Rattle.text.proofs.Placing.{put-nothing}
+use Rattle.session.proofs.Going.{Going, lanes, called, together, answered, going-starts, going-on, arrived, at-end, at-full, step-call, step-none, step-kept, step-long}
 use Rattle.session.proofs.Session.feed.Statement.{statement}
 use Rattle.session.proofs.Session.feed.Tie as tie
 

@@ -1,0 +1,5 @@
+pub mod Decimal
+pub mod Taken
+pub mod Fields
+pub mod Digits
+pub mod Placing
