@@ -14,7 +14,7 @@ use Rattle.text.specs.Reading.{readOn}
 use Rattle.text.proofs.Decimal.{decimal-digit}
 use Rattle.session.specs.Whole.{linesOf, answersOf}
 use Rattle.cases.specs.Table.{toldBy}
-use Rattle.units.specs.Texts.{bytesOf}
+use Rattle.text.specs.Spelled.{bytesOf}
 use Rattle.cases.specs.Closing.{Closings}
 use Rattle.cases.proofs.Worked.{teen}
 

@@ -1,7 +1,7 @@
 -- The sessions whose fields differ: the definitions compute, once its numbers are in digits.
 use mathlib.Core.Path.{_≡_}
 use native.Mathlib.Omega.{arith}
-use Rattle.units.specs.Texts.{bytesOf}
+use Rattle.text.specs.Spelled.{bytesOf}
 use Rattle.units.specs.Refusals.{firstOf}
 use Rattle.places.specs.Places.{count, firstFree}
 use Rattle.places.specs.Choice.{comesBefore, better, least}

@@ -15,7 +15,7 @@ use Rattle.text.specs.Decimal.{decimalOf}
 use Rattle.text.specs.Reading.{readOn}
 use Rattle.text.proofs.Decimal.{decimal-snoc, decimal-digit}
 use Rattle.session.specs.Whole.{linesOf, answersOf}
-use Rattle.units.specs.Texts.{bytesOf}
+use Rattle.text.specs.Spelled.{bytesOf}
 use Rattle.cases.specs.Worked.{Worked}
 
 -- one digit more at the end of a number's text

@@ -10,7 +10,7 @@ use Rattle.admission.specs.Answers.{told as verdictTold}
 use Rattle.station.specs.declared.Call.the-variants.{OpenUrgent, OpenFair, OfferPacket}
 use Rattle.station.specs.Calls.{freshStation}
 use Rattle.session.specs.Whole.{sessionOf}
-use Rattle.units.specs.Texts.{bytesOf}
+use Rattle.text.specs.Spelled.{bytesOf}
 use Rattle.cases.specs.Table.{Case, toldBy, declared, ok, no}
 
 -- deadlines 0 and 4,097 are bad; a flow above 15 and an open flow go first

@@ -5,7 +5,7 @@ use Rattle.units.specs.Answers.{values}
 use Rattle.station.specs.declared.Call.the-variants.{OpenUrgent, OpenFair, CloseUrgent, CloseFair, OfferCell, OfferPacket, OpenTurn, Begin, End}
 use Rattle.station.specs.Calls.{freshStation}
 use Rattle.session.specs.Whole.{sessionOf}
-use Rattle.units.specs.Texts.{bytesOf}
+use Rattle.text.specs.Spelled.{bytesOf}
 use Rattle.cases.specs.Table.{Case, toldBy, ok, no}
 
 -- a flow with a cell waiting is not closed; once the cell is sent it is, and opened again with a deadline of 5 its next cell is number 1

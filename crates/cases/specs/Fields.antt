@@ -1,6 +1,6 @@
 -- Sessions whose printed numbers differ from their neighbours, so that no two of them could change places unseen.
 use mathlib.Core.Path.{_≡_}
-use Rattle.units.specs.Texts.{bytesOf}
+use Rattle.text.specs.Spelled.{bytesOf}
 use Rattle.session.specs.Whole.{sessionOf}
 
 pub record Fields : Type 0 where

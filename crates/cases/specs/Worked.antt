@@ -1,6 +1,6 @@
 -- The tender's one whole session, in its own words.
 use mathlib.Core.Path.{_≡_}
-use Rattle.units.specs.Texts.{bytesOf}
+use Rattle.text.specs.Spelled.{bytesOf}
 use Rattle.session.specs.Whole.{sessionOf}
 
 -- The session gives its output, byte for byte.

@@ -1,6 +1,6 @@
 -- Commands and replies as the rules spell them: the definitions compute.
 use mathlib.Core.Path.{refl}
-use Rattle.units.specs.Texts.{bytesOf}
+use Rattle.text.specs.Spelled.{bytesOf}
 use Rattle.promises.specs.Texts.{CommandsSpelled, RepliesSpelled}
 
 pub commands-spelled : CommandsSpelled

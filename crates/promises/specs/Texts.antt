@@ -2,7 +2,7 @@
 use mathlib.Core.Path.{_≡_}
 use mathlib.Core.List.{List, [], _∷_, _++_}
 use Prim.Native.Nat.{ℕ}
-use Rattle.units.specs.Texts.{bytesOf}
+use Rattle.text.specs.Spelled.{bytesOf}
 use Rattle.units.specs.Refusals.{numberOf}
 use Rattle.units.specs.declared.Refusal.{Refusal}
 use Rattle.units.specs.declared.Slot.{Slot}

@@ -1,3 +1,4 @@
 pub mod Decimal
 pub mod Reading
 pub mod Lines
+pub mod Spelled

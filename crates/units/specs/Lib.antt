@@ -3,4 +3,3 @@ pub mod Refusals
 pub mod Charges
 pub mod Answers
 pub mod Radio
-pub mod Texts
