@@ -33,3 +33,15 @@ def edits_are_listed():
     if edits != listed:
         fail('docs/CONTRACTS.md and the edits differ: %s' % ' '.join(sorted(edits ^ listed)))
     return 'docs/CONTRACTS.md lists the %d must-fail edits' % len(edits)
+
+
+def promises_are_listed():
+    """docs/PROMISES.md names every field of the record of promises"""
+    record = (ROOT / 'crates' / 'promises' / 'specs' / 'Promises.antt').read_text().split('pub record Promises')[1]
+    fields = re.findall(r'^  pub (\S+) :', record, re.M)
+    rows = re.findall(r'^\| ([^|]*) \|', (ROOT / 'docs' / 'PROMISES.md').read_text().split('## The promises')[1], re.M)
+    named = {name for row in rows for name in row.split(', ')}
+    missing = [field for field in fields if field not in named]
+    if missing:
+        fail('docs/PROMISES.md lacks %s' % ' '.join(missing))
+    return 'docs/PROMISES.md names the %d promises' % len(fields)

@@ -75,7 +75,7 @@ pub record Published : Type 0 where
   pub deadline14 : (ds : List Declaration) (k : ℕ) → (admitOf ds ≡ RefusedAt BadDeadline k) ↔ FirstBad DeadlineBad ds k
   -- no other refusal is given
   pub others : (ds : List Declaration) → List·Memᴰ (told (admitOf ds) .number) (0 ∷ 14 ∷ 16 ∷ 17 ∷ 18 ∷ [])
-  -- admitted exactly when not refused and demand by t is at most t for every t from 1 to 4,096
+  -- admitted exactly when not refused and no t from 1 to 4,096 has more due by it than t
   pub admitted : (ds : List Declaration) → (admitOf ds ≡ Admitted) ↔ (Fits ds × Keeps ds)
   -- the answer is t exactly when not refused and t is the smallest that fails
   pub fails : (ds : List Declaration) (t : ℕ) → (admitOf ds ≡ FailsAt t) ↔ (Fits ds × Least ds t)

@@ -91,8 +91,8 @@ pub record Promises : Type 0 where
   pub U0 : (calls : List Call) → OnTime (run calls .station .urgent) (run calls .cells)
   -- U1: accepted = sent + missed + waiting, and the places held are the waiting cells
   pub U1 : (calls : List Call) → Accounted (run calls .station .urgent) (run calls .cells)
-  -- U2: an open turn sends the waiting cell with the earliest last slot, ties to the lowest flow and then the lowest number; that no other
-  -- cell leaves by sending is U1 after the turn
+  -- U2: of the cells that wait, an open turn sends the one whose last slot comes first, ties to the lowest flow and then the lowest number;
+  -- that no other cell leaves by sending is U1 after the turn
   pub U2 : (calls : List Call) → onUrgent (Earliest (run calls .cells)) (replyTo calls OpenTurn)
   -- U3: an accepted cell is told how many of its flow were accepted before it, and the last slot of its window; no number wraps
   pub U3 :
