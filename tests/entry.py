@@ -20,10 +20,13 @@ def tree(at):
 
 
 def without_kit():
-    """A PATH with what the entry uses, but no rt."""
+    """A PATH with what the entry and the tests use, but no rt."""
     path = folder()
-    for name in ('bash', 'cat', 'dirname', 'env', 'flock', 'mkdir', 'readlink', 'sed', 'setsid'):
-        (path / name).symlink_to(shutil.which(name))
+    for name in ('bash', 'cat', 'dirname', 'env', 'flock', 'mkdir', 'python3', 'readlink', 'sed', 'setsid'):
+        found = shutil.which(name)
+        if found is None:
+            fail('%s is missing' % name)
+        (path / name).symlink_to(found)
     return {**os.environ, 'PATH': str(path)}
 
 

@@ -5,6 +5,7 @@ import shutil
 import signal
 import subprocess
 import tempfile
+import threading
 import time
 
 ROOT = pathlib.Path(__file__).resolve().parent.parent
@@ -20,7 +21,7 @@ class Ended(BaseException):
 
 
 class State:
-    """What is to be cleared away in the end, and a signal that came while a process was being started."""
+    """What is to be cleared away in the end; whether the main thread is starting a process, and the signal that came."""
     room = None
     running = []
     starting = False
@@ -31,8 +32,18 @@ def fail(what):
     raise Failed(what)
 
 
+def signal_all(number):
+    """Sends a signal to all that was started and still runs, and to what that started."""
+    for process in [one for one in State.running if one.returncode is None]:
+        try:
+            os.killpg(process.pid, number)
+        except ProcessLookupError:
+            pass
+
+
 def signalled(number, _):
     State.came = number
+    signal_all(signal.SIGTERM)  # threads that wait for a process come back, and start none
     if not State.starting:
         raise Ended(number)
 
@@ -51,11 +62,7 @@ def clear():
     for number in (signal.SIGHUP, signal.SIGINT, signal.SIGTERM):
         signal.signal(number, signal.SIG_IGN)
     for number, patience in ((signal.SIGTERM, 3), (signal.SIGKILL, 3)):
-        for process in State.running:
-            try:
-                os.killpg(process.pid, number)
-            except ProcessLookupError:
-                pass
+        signal_all(number)
         until = time.monotonic() + patience
         while any(process.poll() is None for process in State.running) and time.monotonic() < until:
             time.sleep(0.05)
@@ -72,12 +79,13 @@ def folder():
 
 def start(command, **how):
     """Starts a process in a group of its own, which ends with this run at the latest."""
-    State.starting = True
-    try:
-        process = subprocess.Popen([str(word) for word in command], start_new_session=True, **how)
-        State.running.append(process)
-    finally:
-        State.starting = False
+    if State.came is None:
+        State.starting = threading.current_thread() is threading.main_thread()
+        try:
+            process = subprocess.Popen([str(word) for word in command], start_new_session=True, **how)
+            State.running.append(process)
+        finally:
+            State.starting = False
     if State.came is not None:
         raise Ended(State.came)
     return process
