@@ -9,7 +9,8 @@ use Rattle.fair.specs.Calls.{openOf, offerOf}
 use Rattle.station.specs.Calls.{callOf}
 use Rattle.text.specs.Reading.{readOn}
 use Rattle.text.proofs.Decimal.{decimal-digit}
-use Rattle.session.specs.Whole.{linesOf, answersOf}
+use Rattle.text.specs.Input.{linesOf}
+use Rattle.session.specs.Whole.{answersOf}
 use Rattle.cases.specs.Table.{replies}
 use Rattle.units.specs.Texts.{bytesOf}
 use Rattle.cases.specs.BadNumbers.{BadNumbers}

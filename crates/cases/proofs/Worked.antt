@@ -14,7 +14,8 @@ use Rattle.station.specs.Calls.{callOf}
 use Rattle.text.specs.Decimal.{decimalOf}
 use Rattle.text.specs.Reading.{readOn}
 use Rattle.text.proofs.Decimal.{decimal-snoc, decimal-digit}
-use Rattle.session.specs.Whole.{linesOf, answersOf}
+use Rattle.text.specs.Input.{linesOf}
+use Rattle.session.specs.Whole.{answersOf}
 use Rattle.units.specs.Texts.{bytesOf}
 use Rattle.cases.specs.Worked.{Worked}
 

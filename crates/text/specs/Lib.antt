@@ -1,3 +1,5 @@
 pub mod Decimal
 pub mod Reading
 pub mod Lines
+pub mod Input
+pub mod Feeding
