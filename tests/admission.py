@@ -1,13 +1,18 @@
-"""A plain model of the admission test.
+"""A plain model of the admission program.
 
     admission.py < lists > answers
 
-Each line is one list of declarations, as blank-separated numbers B P D B P D ...; an empty line is the empty list.
+A line is one list of declarations: numbers B P D B P D .., with one blank between two of them; an empty line is the empty list. A number
+is written in decimal with 1 to 10 digits, no zero in front of another digit, and is at most 4,294,967,295. What is no such line is
+answered `no 11`. A last line that no line feed ends counts if it has a byte.
 """
 
+import re
 import sys
 
 LAST_T = 4096  # the largest deadline, and the last t that is looked at
+NUMBER = re.compile(rb"0|[1-9][0-9]{0,9}")
+LARGEST = 4294967295
 
 
 # The refusal of a declaration: 17 for its burst, else 18 for its period, else 14 for its deadline; None if all are good.
@@ -44,12 +49,33 @@ def verdict(declarations) -> str:
     return "admitted"
 
 
-# The declarations on one line of an admission input.
+# The declarations of one line, or None if it is no list.
 def declarations_of(line):
-    numbers = iter([int(field) for field in line.split()])
-    return list(zip(numbers, numbers, numbers, strict=True))
+    if line == b"":
+        return []
+    fields = line.split(b" ")
+    if len(fields) % 3 != 0 or not all(NUMBER.fullmatch(field) and int(field) <= LARGEST for field in fields):
+        return None
+    numbers = [int(field) for field in fields]
+    return list(zip(numbers[0::3], numbers[1::3], numbers[2::3], strict=True))
+
+
+# The lines of an input.
+def lines_of(given):
+    *lines, last = given.split(b"\n")
+    return lines + [last] if last else lines
+
+
+# What one line is answered.
+def answer(line) -> str:
+    declarations = declarations_of(line)
+    return "no 11" if declarations is None else verdict(declarations)
+
+
+# What a whole input is answered.
+def answers(given) -> bytes:
+    return "".join(answer(line) + "\n" for line in lines_of(given)).encode("ascii")
 
 
 if __name__ == "__main__":
-    for line in sys.stdin.read().splitlines():
-        print(verdict(declarations_of(line)))
+    sys.stdout.buffer.write(answers(sys.stdin.buffer.read()))

@@ -2,16 +2,17 @@
 
     lists.py SEED COUNT > lists
 
-writes the lists settled by hand, and after them so many random ones. Everything here is settled by its arguments: the same seed
-gives the same bytes.
+writes the lists and the lines settled by hand, and after them so many random lists and half as many random lines that are mostly no
+list. Everything here is settled by its arguments: the same seed gives the same bytes.
 """
 
 import random
 import sys
 
-TOP = 2**64 - 1
+TOP = 2**64 - 1  # beyond what a line may hold
+LARGEST = 2**32 - 1
 DIVISORS = [period for period in range(1, 5041) if 5040 % period == 0]
-BEYOND = [[0, 17, 257, TOP], [0, 11, 5041, 10080, 65537, TOP], [0, 4097, 65537, TOP]]  # bad bursts, periods, deadlines
+BEYOND = [[0, 17, 257, LARGEST], [0, 11, 5041, 10080, 65537, LARGEST], [0, 4097, 65537, LARGEST]]  # bad bursts, periods, deadlines
 
 
 # A declaration with any good numbers.
@@ -99,15 +100,15 @@ def random_lists(seed, count):
 def bad_declarations():
     return {
         17: [
-            (0, 5040, 4096), (17, 5040, 4096), (257, 5040, 4096), (65537, 5040, 4096), (2**32 + 1, 5040, 4096),
-            (TOP, 5040, 4096), (0, 0, 1), (17, 11, 1), (0, 5040, 0), (17, 1, 4097), (0, 0, 0), (TOP, TOP, TOP),
+            (0, 5040, 4096), (17, 5040, 4096), (257, 5040, 4096), (65537, 5040, 4096), (LARGEST, 5040, 4096),
+            (0, 0, 1), (17, 11, 1), (0, 5040, 0), (17, 1, 4097), (0, 0, 0), (LARGEST, LARGEST, LARGEST),
         ],
         18: [
             (1, 0, 4096), (1, 11, 4096), (16, 32, 4096), (1, 2521, 4096), (1, 5039, 1), (1, 5041, 4096), (1, 10080, 4096),
-            (1, 2**32 + 1, 4096), (1, TOP, 4096), (1, 0, 0), (16, 11, 4097), (1, TOP, TOP),
+            (1, LARGEST, 4096), (1, 0, 0), (16, 11, 4097), (1, LARGEST, LARGEST),
         ],
         14: [
-            (1, 5040, 0), (16, 1, 0), (1, 5040, 4097), (16, 1, 4097), (1, 5040, 65537), (1, 5040, 2**32 + 1), (1, 5040, TOP),
+            (1, 5040, 0), (16, 1, 0), (1, 5040, 4097), (16, 1, 4097), (1, 5040, 65537), (1, 5040, LARGEST),
         ],
     }
 
@@ -164,7 +165,7 @@ def refused_lists():
         ([burst] + [late] * 15 + [deadline], "no 16"),
         ([burst] * 17, "no 16"),
         ([(0, 0, 0)] * 17, "no 16"),
-        ([(TOP, TOP, TOP)] * 17, "no 16"),
+        ([(LARGEST, LARGEST, LARGEST)] * 17, "no 16"),
         ([late] * 17 + [period], "no 16"),
         ([(0, 0, 0)] * 18, "no 16"),
         ([(1, 1, 0)] * 33, "no 16"),
@@ -199,16 +200,60 @@ def judged_lists():
     ]
 
 
+# Lines that no list has, and a few that one has, each with its answer, settled by hand.
+def settled_lines():
+    late = b"1 5040 4096"
+    no_lists = [
+        b"foo", b"1", b"1 2", b"1 2 1 1", b"1 2 1 1 2", b" ", b"  ", b" 1 2 1", b"1 2 1 ", b"1  2 1", b"1 2  1", b"1 2 1  1 2 2", b"1,2,1", b"1 2 1,",
+        b"1\t2 1", b"1 2 1\r", b"\r", b"1 2 1\0", b"\0", b"-1 2 1", b"+1 2 1", b"1 2 1.0", b"1e1 2 1", b"0x1 2 1", b"\xff", b"1 2 1 \xff", b"t", b"admitted",
+        b"01 2 1", b"1 02 1", b"1 2 01", b"00 2 1", b"1 2 00", b"1 2 4294967296", b"4294967296 2 1", b"1 9999999999 1", b"1 2 10000000000",
+        b"1 2 00000000001", b"1 2 18446744073709551615", b"1 2 18446744073709551617", b"1 2 340282366920938463463374607431768211457",
+        b" ".join([late] * 16 + [b"1"]), b" ".join([late] * 16 + [b"1 5040 4294967296"]), b" ".join([late] * 17 + [b"foo"]), b" ".join([late] * 17) + b" ",
+        b" ".join([late] * 18 + [b"1 2"]), b" ".join([late] * 40 + [b"01 2 1"]), b" ".join([late] * 17 + [b"1 5040 18446744073709551616"]),
+        b"17 2 foo", b"1 11 0 1", b"0" * 5000, b" " * 5000, b"1" * 5000, b"x" * 70000,
+    ]
+    some_lists = [
+        (b"", b"admitted"), (b"1 2 1", b"admitted"), (b"0 0 0", b"no 17 0"), (b"1 0 0", b"no 18 0"), (b"1 2 0", b"no 14 0"), (b"1 2 4294967295", b"no 14 0"),
+        (b"4294967295 2 1", b"no 17 0"), (b"1 1000000000 1", b"no 18 0"), (b"1 2 1 1 2 1", b"fails 1"), (b" ".join([late] * 17), b"no 16"),
+        (b" ".join([b"0 0 0"] * 5000), b"no 16"), (b" ".join([late] * 16), b"admitted"),
+    ]
+    return [(line, b"no 11") for line in no_lists] + some_lists
+
+
+# A random line that is a list's text with a byte or two changed, put in or taken out, which mostly makes it no list.
+def random_line(rng):
+    text = bytearray(b" ".join(b"%d" % n for _ in range(rng.choice([0, 1, 1, 2, 3, 16, 17, 18])) for n in any_declaration(rng)))
+    for _ in range(rng.randint(0, 2)):
+        at = rng.randint(0, len(text))
+        text[at : at + rng.randint(0, 1)] = rng.choice([b"", b" ", b"0", b"9", b"x", b"\0", b"4294967296", bytes([rng.choice([9, 11, 13, 47, 58, 128, 255])])])
+    return bytes(text)
+
+
+def random_lines(seed, count):
+    rng = random.Random(seed)
+    return [random_line(rng) for _ in range(count)]
+
+
 # All lists settled by hand, each with its answer.
 def fixed_lists():
     return refused_lists() + judged_lists()
 
 
-# Lists as the lines of an admission input.
-def list_lines(lists):
-    return "".join(" ".join(str(n) for one in made for n in one) + "\n" for made in lists).encode("ascii")
+# A list as a line.
+def list_line(made):
+    return " ".join(str(n) for one in made for n in one).encode("ascii")
+
+
+# All lines settled by hand, each with its answer.
+def fixed_lines():
+    return [(list_line(made), answer.encode("ascii")) for made, answer in fixed_lists()] + settled_lines()
+
+
+# The lines of a whole input: those settled by hand, random lists, and random lines.
+def made_lines(seed, count):
+    made = [line for line, _ in fixed_lines()] + [list_line(one) for one in random_lists(seed, count)]
+    return made + random_lines(seed, count // 2)
 
 
 if __name__ == "__main__":
-    by_hand = [made for made, _ in fixed_lists()]
-    sys.stdout.buffer.write(list_lines(by_hand + random_lists(int(sys.argv[1]), int(sys.argv[2]))))
+    sys.stdout.buffer.write(b"".join(line + b"\n" for line in made_lines(int(sys.argv[1]), int(sys.argv[2]))))

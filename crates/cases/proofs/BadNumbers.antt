@@ -9,9 +9,10 @@ use Rattle.fair.specs.Calls.{openOf, offerOf}
 use Rattle.station.specs.Calls.{callOf}
 use Rattle.text.specs.Reading.{readOn}
 use Rattle.text.proofs.Decimal.{decimal-digit}
-use Rattle.session.specs.Whole.{linesOf, answersOf}
-use Rattle.cases.specs.Table.{toldBy}
+use Rattle.text.specs.Input.{linesOf}
 use Rattle.text.specs.Spelled.{bytesOf}
+use Rattle.session.specs.Whole.{answersOf}
+use Rattle.cases.specs.Table.{toldBy}
 use Rattle.cases.specs.BadNumbers.{BadNumbers}
 use Rattle.cases.proofs.Worked.{teen}
 

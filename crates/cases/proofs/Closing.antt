@@ -12,9 +12,10 @@ use Rattle.fair.specs.Calls.{openOf, closeOf, offerOf, beginOf, endOf}
 use Rattle.station.specs.Calls.{callOf}
 use Rattle.text.specs.Reading.{readOn}
 use Rattle.text.proofs.Decimal.{decimal-digit}
-use Rattle.session.specs.Whole.{linesOf, answersOf}
-use Rattle.cases.specs.Table.{toldBy}
+use Rattle.text.specs.Input.{linesOf}
 use Rattle.text.specs.Spelled.{bytesOf}
+use Rattle.session.specs.Whole.{answersOf}
+use Rattle.cases.specs.Table.{toldBy}
 use Rattle.cases.specs.Closing.{Closings}
 use Rattle.cases.proofs.Worked.{teen}
 

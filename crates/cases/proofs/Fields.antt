@@ -13,7 +13,8 @@ use Rattle.station.specs.Calls.{callOf}
 use Rattle.text.specs.Decimal.{decimalOf}
 use Rattle.text.specs.Reading.{readOn}
 use Rattle.text.proofs.Decimal.{decimal-digit}
-use Rattle.session.specs.Whole.{linesOf, answersOf}
+use Rattle.text.specs.Input.{linesOf}
+use Rattle.session.specs.Whole.{answersOf}
 use Rattle.cases.specs.Fields.{Fields}
 use Rattle.cases.proofs.Worked.{longer, teen}
 

@@ -14,8 +14,9 @@ use Rattle.station.specs.Calls.{callOf}
 use Rattle.text.specs.Decimal.{decimalOf}
 use Rattle.text.specs.Reading.{readOn}
 use Rattle.text.proofs.Decimal.{decimal-snoc, decimal-digit}
-use Rattle.session.specs.Whole.{linesOf, answersOf}
+use Rattle.text.specs.Input.{linesOf}
 use Rattle.text.specs.Spelled.{bytesOf}
+use Rattle.session.specs.Whole.{answersOf}
 use Rattle.cases.specs.Worked.{Worked}
 
 -- one digit more at the end of a number's text

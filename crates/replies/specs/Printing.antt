@@ -11,14 +11,11 @@ use Rattle.fair.specs.declared.Answer.the-variants.{Refused as Refused', Opened
 use Rattle.station.specs.declared.Reply.{Reply}
 use Rattle.station.specs.declared.Reply.the-variants.{Urgent, Fair}
 use Rattle.text.specs.Decimal.{decimalOf}
-use Rattle.text.specs.Lines.{lineWith}
+use Rattle.text.specs.Lines.{noWord, lineWith}
 
--- the words ok, no, sent, idle and missed
+-- the words ok, sent, idle and missed
 abbrev pub okWord : List ℕ
 okWord = 111 ∷ 107 ∷ []
-
-abbrev pub noWord : List ℕ
-noWord = 110 ∷ 111 ∷ []
 
 abbrev pub sentWord : List ℕ
 sentWord = 115 ∷ 101 ∷ 110 ∷ 116 ∷ []

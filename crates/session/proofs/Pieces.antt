@@ -15,28 +15,12 @@ use Rattle.text.specs.Lines.{lineFeed}
 use Rattle.replies.specs.Printing.{longest}
 use Rattle.session.specs.declared.Session.{Session}
 use Rattle.session.specs.declared.Fed.{Fed}
-use Rattle.session.specs.Whole.{onto, linesOf, heardAs, answerOf, answersOf}
+use Rattle.text.specs.Input.{onto, linesOf, joined}
+use Rattle.text.proofs.Input.{begun, begun-more, begun-ended}
+use Rattle.session.specs.Whole.{heardAs, answerOf, answersOf}
 use Rattle.session.specs.Steps.{Step, freshSession, keptAs, answeredBy, ended, stepOf, fedOf, finishOf, takenOf, Feeds}
-use Rattle.session.specs.Laws.{joined, fedPieces, FedInPieces, TakesOn}
+use Rattle.session.specs.Laws.{fedPieces, FedInPieces, TakesOn}
 use Rattle.session.proofs.Going.{fed-append, step-kept, step-long}
-
--- the lines of an input that goes on from a line begun
-begun : List ℕ → List (List ℕ) → List (List ℕ)
-begun [] lines = lines
-begun (x ∷ line) [] = (x ∷ line) ∷ []
-begun (x ∷ line) (rest ∷ lines) = (x ∷ (line ++ rest)) ∷ lines
-
-begun-more : (line : List ℕ) (b : ℕ) (lines : List (List ℕ)) → begun line (onto b lines) ≡ begun (line ++ b ∷ []) lines
-unfolding begun
-begun-more [] b [] = refl
-begun-more [] b (rest ∷ lines) = refl
-begun-more (x ∷ line) b [] = refl
-begun-more (x ∷ line) b (rest ∷ lines) = rw (append-assoc line (b ∷ []) rest)
-
-begun-ended : (line : List ℕ) (lines : List (List ℕ)) → begun line ([] ∷ lines) ≡ line ∷ lines
-unfolding begun
-begun-ended [] lines = refl
-begun-ended (x ∷ line) lines = rw (append-nil line)
 
 -- the session keeps this line
 record Holds (s : Session) (line : List ℕ) : Type 0 where

@@ -5,13 +5,9 @@ use Prim.Native.Nat.{ℕ, _+_, _≤_, _<_}
 use lib.ListN.{length}
 use Rattle.session.specs.declared.Session.{Session}
 use Rattle.session.specs.Whole.{sessionOf}
+use Rattle.text.specs.Input.{joined}
 use Rattle.replies.specs.Printing.{longest}
 use Rattle.session.specs.Steps.{Step, freshSession, after, fedOf, finishOf, takenOf}
-
--- the pieces as one input
-unfoldable pub joined : List (List ℕ) → List ℕ
-joined [] = []
-joined (piece ∷ pieces) = piece ++ joined pieces
 
 -- one piece fed after the other
 unfoldable pub fedPieces : Session → List (List ℕ) → Step

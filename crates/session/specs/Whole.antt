@@ -3,24 +3,14 @@ use mathlib.Core.Bool.{cond}
 use mathlib.Core.List.{List, [], _∷_, _++_}
 use mathlib.Core.Option.{Option, none, some}
 use Prim.Native.Nat.{ℕ}
-use lib.Dec.{eqb, leb}
+use lib.Dec.{leb}
 use lib.ListN.{length}
 use Rattle.station.specs.Calls.{freshStation, callOf}
 use Rattle.station.specs.declared.Station.{Station}
 use Rattle.station.specs.declared.Call.{Call}
 use Rattle.lines.specs.Reading.{readCall}
-use Rattle.text.specs.Lines.{lineFeed}
+use Rattle.text.specs.Input.{linesOf}
 use Rattle.replies.specs.Printing.{noCommandLine, lineOf}
-
--- the lines with one byte more in front of the first
-abbrev pub onto : ℕ → List (List ℕ) → List (List ℕ)
-onto b [] = (b ∷ []) ∷ []
-onto b (line ∷ lines) = (b ∷ line) ∷ lines
-
--- the lines of the input, each up to its line feed; a last line without one counts if it has a byte
-unfoldable pub linesOf : List ℕ → List (List ℕ)
-linesOf [] = []
-linesOf (b ∷ bs) = cond (eqb b lineFeed) ([] ∷ linesOf bs) (onto b (linesOf bs))
 
 -- the call that a line asks for: none where it has more than 32 bytes, or is no call's text
 abbrev pub heardAs : List ℕ → Option Call

@@ -9,6 +9,10 @@ use Rattle.text.specs.Reading.{blank}
 abbrev pub lineFeed : ℕ
 lineFeed = 10
 
+-- the word of every refusal
+abbrev pub noWord : List ℕ
+noWord = 110 ∷ 111 ∷ []
+
 -- each field after one blank
 abbrev pub partsOf : List (List ℕ) → List ℕ
 partsOf [] = []

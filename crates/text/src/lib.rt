@@ -2,6 +2,8 @@
 mod reading;
 mod writing;
 
+pub use reading::digit;
+pub use reading::goes_on;
 pub use reading::number;
 pub use writing::line;
 pub use writing::part;

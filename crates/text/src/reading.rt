@@ -1,6 +1,5 @@
 // Reading a number of a line.
 ghost use mathlib.Core.Path.{_≡_};
-ghost use Prim.Native.Nat.{_≤_};
 ghost use lib.ListN.{drop};
 ghost use Rattle.text.specs.Reading.{isDigit, goesOn, readNumber, Reads};
 use crate::Field;
@@ -37,7 +36,7 @@ pub fn number(line: &[u8], from: usize) -> Field
 }
 
 // Whether a byte is a digit.
-fn digit(b: u8) -> bool
+pub fn digit(b: u8) -> bool
     ensures { λ r. ⌜ r ≡ isDigit b ⌝ }
 {
     if b < 48 {
@@ -47,14 +46,16 @@ fn digit(b: u8) -> bool
 }
 
 // Whether a number goes on with this byte: no zero stands in front, and it stays within the largest.
-fn goes_on(value: u64, b: u8) -> bool
-    requires { ⌜ value ≤ 4294967295 ⌝ }
+pub fn goes_on(value: u64, b: u8) -> bool
     ensures { λ r. ⌜ r ≡ goesOn value b ⌝ }
 {
     if !digit(b) {
         return false;
     }
     if value < 1 {
+        return false;
+    }
+    if LARGEST < value {
         return false;
     }
     value * 10 + (b - 48) as u64 <= LARGEST

@@ -1,0 +1,6 @@
+pub mod Grammar
+pub mod Reading
+pub mod Printing
+pub mod Whole
+pub mod Steps
+pub mod Laws
