@@ -1,14 +1,16 @@
 -- What the lists' lines promise, proved.
 use mathlib.Core.Path.{refl}
+use Rattle.text.specs.Spelled.{bytesOf}
 use Rattle.lists.specs.Laws.{ListPromises}
 use Rattle.lists.proofs.Texts.{reads-one-list}
 use Rattle.lists.proofs.Pieces.{fed-in-pieces, takes-on}
 
 pub list-promises : ListPromises
+unfolding bytesOf
 list-promises =
     record {
-      one-text = reads-one-list;
-      spelt = record { admitted = refl; fails = λ t. refl; refused = λ r. refl; refused-at = λ r k. refl };
-      pieces = fed-in-pieces;
-      goes-on = takes-on;
+      D1 = reads-one-list;
+      D2 = record { admitted = refl; fails = λ t. refl; refused = λ r. refl; refusedAt = λ r k. refl };
+      D3 = fed-in-pieces;
+      D4 = takes-on;
     }

@@ -7,7 +7,7 @@ use Rattle.text.specs.Input.{joined}
 use Rattle.text.specs.Feeding.{fedBy, piecesBy, takenBy}
 use Rattle.lists.specs.declared.Reading.{Reading}
 use Rattle.lists.specs.Reading.{ReadsOneList}
-use Rattle.lists.specs.Printing.{longest, VerdictsSpelt}
+use Rattle.lists.specs.Printing.{longest, VerdictsSpelled}
 use Rattle.lists.specs.Whole.{verdictsOf}
 use Rattle.lists.specs.Steps.{freshReading, stepOf, finishOf}
 
@@ -24,13 +24,13 @@ TakesOn =
     → (longest ≤ room → 0 < length input → 0 < takenBy stepOf longest r input room)
     × (length (fedBy stepOf r input .text) + longest ≤ room → takenBy stepOf longest r input room ≡ length input)
 
--- what the lists' lines promise
+-- What is promised of the lines of lists.
 pub record ListPromises : Type 0 where
-  -- A2: a line is read as a list exactly where it is the list's one text
-  pub one-text : ReadsOneList
-  -- A3: each verdict's line, spelled out
-  pub spelt : VerdictsSpelt
-  -- A4: in whatever pieces the input comes, the output is the same
-  pub pieces : FedInPieces
-  -- A5: no input is left waiting for ever
-  pub goes-on : TakesOn
+  -- D1: a line is read as a list exactly where it is the list's one text and its numbers are at most 4,294,967,295
+  pub D1 : ReadsOneList
+  -- D2: each verdict's line is spelled as the rules spell it
+  pub D2 : VerdictsSpelled
+  -- D3: a whole input is one definition, bytes to bytes, and fed in any pieces the program's steps write it
+  pub D3 : FedInPieces
+  -- D4: with room for a line, no piece is left waiting
+  pub D4 : TakesOn

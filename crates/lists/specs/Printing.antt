@@ -1,5 +1,5 @@
--- The line that each verdict is written as, and that law in words spelled out.
-use mathlib.Core.List.{List, [], _∷_, _++_}
+-- The line that each verdict is written as, and the same spelled out.
+use mathlib.Core.List.{List, [], _∷_}
 use mathlib.Core.Path.{_≡_}
 use Prim.Native.Nat.{ℕ}
 use Rattle.units.specs.declared.Refusal.{Refusal}
@@ -8,6 +8,7 @@ use Rattle.admission.specs.declared.Verdict.{Verdict}
 use Rattle.admission.specs.declared.Verdict.the-variants.{Admitted, FailsAt, Refused, RefusedAt}
 use Rattle.text.specs.Decimal.{decimalOf}
 use Rattle.text.specs.Lines.{noWord, lineWith}
+use Rattle.text.specs.Spelled.{bytesOf, field, spelled}
 
 -- the words admitted and fails
 abbrev pub admittedWord : List ℕ
@@ -27,9 +28,9 @@ verdictLine (RefusedAt r k) = lineWith noWord (decimalOf (numberOf r) ∷ decima
 abbrev pub longest : ℕ
 longest = 96
 
--- Each verdict beside its line: a d m i t t e d; f a i l s and t; n o and the number; n o, the number and the place; and a line feed.
-pub record VerdictsSpelt : Type 0 where
-  pub admitted : verdictLine Admitted ≡ 97 ∷ 100 ∷ 109 ∷ 105 ∷ 116 ∷ 116 ∷ 101 ∷ 100 ∷ 10 ∷ []
-  pub fails : (t : ℕ) → verdictLine (FailsAt t) ≡ 102 ∷ 97 ∷ 105 ∷ 108 ∷ 115 ∷ 32 ∷ (decimalOf t ++ 10 ∷ [])
-  pub refused : (r : Refusal) → verdictLine (Refused r) ≡ 110 ∷ 111 ∷ 32 ∷ (decimalOf (numberOf r) ++ 10 ∷ [])
-  pub refused-at : (r : Refusal) (k : ℕ) → verdictLine (RefusedAt r k) ≡ 110 ∷ 111 ∷ 32 ∷ (decimalOf (numberOf r) ++ 32 ∷ (decimalOf k ++ 10 ∷ []))
+-- Each verdict beside its line.
+pub record VerdictsSpelled : Type 0 where
+  pub admitted : verdictLine Admitted ≡ spelled (bytesOf "admitted" ∷ [])
+  pub fails : (t : ℕ) → verdictLine (FailsAt t) ≡ spelled (bytesOf "fails" ∷ field t ∷ [])
+  pub refused : (r : Refusal) → verdictLine (Refused r) ≡ spelled (bytesOf "no" ∷ field (numberOf r) ∷ [])
+  pub refusedAt : (r : Refusal) (k : ℕ) → verdictLine (RefusedAt r k) ≡ spelled (bytesOf "no" ∷ field (numberOf r) ∷ field k ∷ [])

@@ -2,7 +2,7 @@
 use mathlib.Core.Path.{_≡_}
 use mathlib.Core.List.{List, [], _∷_, _++_}
 use Prim.Native.Nat.{ℕ}
-use Rattle.text.specs.Spelled.{bytesOf}
+use Rattle.text.specs.Spelled.{bytesOf, field, spelled}
 use Rattle.units.specs.Refusals.{numberOf}
 use Rattle.units.specs.declared.Refusal.{Refusal}
 use Rattle.units.specs.declared.Slot.{Slot}
@@ -16,15 +16,6 @@ use Rattle.station.specs.Answers.{told}
 use Rattle.text.specs.Decimal.{decimalOf}
 use Rattle.lines.specs.Grammar.{textOf}
 use Rattle.replies.specs.Printing.{noCommandLine, lineOf}
-
--- a number in a line: one blank, and its decimal text
-abbrev pub field : ℕ → List ℕ
-field n = bytesOf " " ++ decimalOf n
-
--- a line: its pieces one after the other, and one line feed
-abbrev pub line : List (List ℕ) → List ℕ
-line [] = bytesOf "\n"
-line (piece ∷ pieces) = piece ++ line pieces
 
 -- Each call's text: its letter, and its numbers in their order.
 pub record CommandsSpelled : Type 0 where
@@ -42,12 +33,12 @@ pub record CommandsSpelled : Type 0 where
 -- a reply that is no refusal tells these values, and is written as this line
 pub record Says (reply : Reply) (values : List ℕ) (pieces : List (List ℕ)) : Type 0 where
   pub tells : told reply ≡ record { number = 0; values = values }
-  pub written : lineOf reply ≡ line pieces
+  pub written : lineOf reply ≡ spelled pieces
 
 -- a refusal tells its number and no value, and is written as `no` and the number
 pub record SaysNo (reply : Reply) (refusal : Refusal) : Type 0 where
   pub tells : told reply ≡ record { number = numberOf refusal; values = [] }
-  pub written : lineOf reply ≡ line (bytesOf "no" ∷ field (numberOf refusal) ∷ [])
+  pub written : lineOf reply ≡ spelled (bytesOf "no" ∷ field (numberOf refusal) ∷ [])
 
 -- Each reply's line: its word, and what it tells, in the rules' order.
 pub record RepliesSpelled : Type 0 where
@@ -84,4 +75,4 @@ pub record RepliesSpelled : Type 0 where
   -- a refusal of either lane, and a line that is no command
   pub refused : (refusal : Refusal) → SaysNo (Urgent (Refused refusal)) refusal
   pub fairRefused : (refusal : Refusal) → SaysNo (Fair (FairRefused refusal)) refusal
-  pub noCommand : noCommandLine ≡ line (bytesOf "no" ∷ field 11 ∷ [])
+  pub noCommand : noCommandLine ≡ spelled (bytesOf "no" ∷ field 11 ∷ [])
