@@ -36,6 +36,12 @@ STATIONS = [
             ('proofs/serving/goes_before/Proof.antt', '.start .0', '.finish .0'),
         ],
     ),
+    (
+        'a begin is written with its number before its flow', 'replies', 'promises', [
+            ('specs/Printing.antt', '(decimalOf flow ∷ decimalOf number ∷ decimalOf (start .0) ∷ [])', '(decimalOf number ∷ decimalOf flow ∷ decimalOf (start .0) ∷ [])'),
+            ('src/writing.rt', '[flow, number, start.0]', '[number, flow, start.0]'),
+        ],
+    ),
 ]
 
 
