@@ -1,7 +1,9 @@
 /* A station in C: two flows open, three cells and a packet are offered, and the radio comes by.
 
    rt staticlib tuhkeliar_c
-   cc -Iinclude examples/station.c -Ltarget/staticlib -ltuhkeliar_c -o station && ./station */
+   cc -Iinclude examples/station.c -Ltarget/staticlib -ltuhkeliar_c -o station && ./station
+
+   (on another processor than x86-64: x86_64-linux-gnu-gcc, and tools/start ./station) */
 #include <inttypes.h>
 #include <stdio.h>
 

@@ -7,6 +7,8 @@
 
        cc -Iinclude program.c -Ltarget/staticlib -ltuhkeliar_c
 
+   where cc compiles for x86-64 (x86_64-linux-gnu-gcc on another processor).
+
    From outside the archive needs memcpy and memmove, and nothing else: no heap, no files, no C library beside these two.
    Threads: no call keeps anything or shares anything with another, so threads with a station each need no lock; one station is one thread's at a time.
    Stack: a station has 17,344 bytes. A by-value call takes up to 53 kB below its caller, and its caller keeps about 35 kB for each such call

@@ -46,7 +46,7 @@ def stored_session():
 
 
 def worked_session():
-    """the tender's own session comes out byte for byte"""
+    """the rules' own session comes out byte for byte"""
     given, expected = named.worked()
     if reference.session(given) != expected:
         fail('the reference differs from the worked session')

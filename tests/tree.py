@@ -36,9 +36,11 @@ def edits_are_listed():
 
 
 def promises_are_listed():
-    """docs/PROMISES.md names every field of the record of promises"""
-    record = (ROOT / 'crates' / 'promises' / 'specs' / 'Promises.antt').read_text().split('pub record Promises')[1]
-    fields = re.findall(r'^  pub (\S+) :', record, re.M)
+    """docs/PROMISES.md names every field of both records of promises"""
+    fields = []
+    for crate, file, name in (('promises', 'Promises', 'Promises'), ('lists', 'Laws', 'ListPromises')):
+        record = (ROOT / 'crates' / crate / 'specs' / (file + '.antt')).read_text().split('pub record %s ' % name)[1]
+        fields += re.findall(r'^  pub (\S+) :', record, re.M)
     rows = re.findall(r'^\| ([^|]*) \|', (ROOT / 'docs' / 'PROMISES.md').read_text().split('## The promises')[1], re.M)
     named = {name for row in rows for name in row.split(', ')}
     missing = [field for field in fields if field not in named]

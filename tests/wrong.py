@@ -4,16 +4,17 @@ from concurrent.futures import ThreadPoolExecutor
 
 from support import ROOT, build, fail, folder, run
 
-# What is wrong, the crate that is changed and still proved, the promises that refuse it, and the changes: file, old text, new text.
+# What is wrong, the crate that is changed and still proved, the promises that refuse it, the law of theirs that fails first, and the
+# changes: file, old text, new text.
 STATIONS = [
     (
-        'closing starts a flow\'s numbers again', 'urgent', 'promises_urgent', [
+        'closing starts a flow\'s numbers again', 'urgent', 'promises_urgent', 'kept-close', [
             ('specs/Calls.antt', 'opened = false; deadline = flowAt u flow .deadline; next = flowAt u flow .next', 'opened = false; deadline = flowAt u flow .deadline; next = 0'),
             ('src/closing.rt', 'next: was.next,', 'next: 0,'),
         ],
     ),
     (
-        'a turn tells that none was missed', 'urgent', 'promises_urgent', [
+        'a turn tells that none was missed', 'urgent', 'promises_urgent', 'good-turned', [
             ('specs/Calls.antt', 'answer = answer (count (lastIs (u .now)) cells);', 'answer = answer 0;'),
             ('src/turning.rt', 'answering(best, sent, missed)', 'answering(best, sent, 0)'),
             ('proofs/Calls.antt', 'cond (isHeld c) (Sent (place / 16) (c .number) missed) (Idle missed)', 'cond (isHeld c) (Sent (place / 16) (c .number) 0) (Idle 0)'),
@@ -21,7 +22,7 @@ STATIONS = [
         ],
     ),
     (
-        'a drain leaves virtual time at the last start', 'fair', 'promises_fair', [
+        'a drain leaves virtual time at the last start', 'fair', 'promises_fair', 'kept-end', [
             ('specs/Calls.antt', 'time = cond (eqb (waiting u) 0) (largestEnded u) (u .time);', 'time = cond (eqb (waiting u) 0) (u .time) (u .time);'),
             ('src/serving.rt', 'time = largest;', 'time = self.time;'),
             ('proofs/Calls.antt', 'record { time = largest; largest = largest;', 'record { time = u .time; largest = largest;'),
@@ -29,7 +30,7 @@ STATIONS = [
         ],
     ),
     (
-        'packets are served by their finish tags', 'fair', 'promises_fair', [
+        'packets are served by their finish tags', 'fair', 'promises_fair', 'none-before', [
             ('specs/Lane.antt', 'rank = p .start .0;', 'rank = p .finish .0;'),
             ('src/serving.rt', 'tags::earlier(p.start, b.start)', 'tags::earlier(p.finish, b.finish)'),
             ('src/serving.rt', 'tags::earlier(b.start, p.start)', 'tags::earlier(b.finish, p.finish)'),
@@ -37,7 +38,7 @@ STATIONS = [
         ],
     ),
     (
-        'a begin is written with its number before its flow', 'replies', 'promises', [
+        'a begin is written with its number before its flow', 'replies', 'promises', 'replies-spelled', [
             ('specs/Printing.antt', '(decimalOf flow ∷ decimalOf number ∷ decimalOf (start .0) ∷ [])', '(decimalOf number ∷ decimalOf flow ∷ decimalOf (start .0) ∷ [])'),
             ('src/writing.rt', '[flow, number, start.0]', '[number, flow, start.0]'),
         ],
@@ -52,7 +53,7 @@ def needed(name, rests_on):
 
 def built(station):
     """A tree with the wrong station, and what is proved already of the crates that it leaves as they are."""
-    what, changed, promises, changes = station
+    what, changed, promises, _, changes = station
     lines = [line for line in (ROOT / 'crates.txt').read_text().split('\n') if line]
     rests_on = {name: rest.split() for name, rest in (line.split(':') for line in lines)}
     names, root = needed(promises, rests_on), folder()
@@ -72,21 +73,22 @@ def built(station):
 
 def refused(station):
     """Whether the station's own crate proves it and the promises refuse it; what was said, where not."""
-    what, changed, promises, _ = station
+    what, changed, promises, law, _ = station
     root = built(station)
     status, wrote, said = run(['rt', 'check', changed], cwd=root)
     if status != 0:
         return '%s: %s does not prove it:\n%s' % (what, changed, (wrote + said).decode())
     status, wrote, said = run(['rt', 'check', promises], cwd=root)
     told = (wrote + said).decode()
-    if status != 1 or 'rt: %s NOT PROVED (exit 1' % promises not in told:
-        return '%s: %s does not refuse it:\n%s' % (what, promises, told)
+    errors = [line for line in told.split('\n') if 'error: `' in line]
+    if status != 1 or not errors or 'error: `%s`' % law not in errors[0]:
+        return '%s: %s does not refuse it by %s:\n%s' % (what, promises, law, told)
     return None
 
 
 def wrong_stations():
     """stations whose definition and code are wrong together are proved by their own crates and refused by the promises"""
-    build(sorted({promises for _, _, promises, _ in STATIONS}))
+    build(sorted({station[2] for station in STATIONS}))
     with ThreadPoolExecutor(max_workers=2) as pool:
         for answer in pool.map(refused, STATIONS):
             if answer is not None:

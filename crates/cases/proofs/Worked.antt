@@ -1,4 +1,4 @@
--- The tender's session: the definitions compute, once its numbers are in digits.
+-- The rules' whole session: the definitions compute, once its numbers are in digits.
 use mathlib.Core.Path.{_≡_, ap, _∙_}
 use mathlib.Core.List.{List, [], _∷_, _++_}
 use Prim.Native.Nat.{ℕ, _+_, _*_, _≤_, _<_}

@@ -1,4 +1,4 @@
--- Sessions whose printed numbers differ from their neighbours, so that no two of them could change places unseen.
+-- Sessions in which each kind of reply has a line whose numbers all differ, so that no two of them could change places unseen.
 use mathlib.Core.Path.{_≡_}
 use Rattle.text.specs.Spelled.{bytesOf}
 use Rattle.session.specs.Whole.{sessionOf}

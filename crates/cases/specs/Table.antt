@@ -1,4 +1,4 @@
--- The starred cases of the tender's "Numbers to check by hand": what the definitions give, and what the tender says.
+-- The starred cases of docs/RULES.md: what the definitions give, and what the rules say.
 use mathlib.Core.Path.{_≡_}
 use mathlib.Core.List.{List, [], _∷_, map}
 use Prim.Native.Nat.{ℕ, _*_}
@@ -126,6 +126,6 @@ L = record { answered = verdictTold (admitOf (declared 3 2 2 ∷ [])) ∷ []; ex
 abbrev pub table : List Case
 table = A ∷ B ∷ C ∷ D ∷ E ∷ F ∷ H ∷ I ∷ J ∷ K ∷ L ∷ []
 
--- Each case is answered as the tender says.
+-- Each case is answered as the rules say.
 abbrev pub Cases : Type 0
 Cases = map (λ (c : Case). c .answered) table ≡ map (λ (c : Case). c .expected) table

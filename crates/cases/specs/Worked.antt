@@ -1,4 +1,4 @@
--- The tender's one whole session, in its own words.
+-- The rules' one whole session, in its own words.
 use mathlib.Core.Path.{_≡_}
 use Rattle.text.specs.Spelled.{bytesOf}
 use Rattle.session.specs.Whole.{sessionOf}

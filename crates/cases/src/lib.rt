@@ -1,1 +1,1 @@
-// What was worked by hand: the tender's cases, its session, closings and bad numbers. Statements and proofs, no code.
+// What was worked by hand: the rules' cases, a whole session, closings and bad numbers, and sessions whose fields differ. Statements and proofs, no code.

@@ -41,5 +41,5 @@ begins-first u flow number bytes start = go (u .service .busy) refl (eqb (waitin
           lengthTold = rw (l .1) (cc);
           startTold = rw (l .1) (cc);
           goesFirst = rw (l .1) (l .3);
-          freed = rw (b, n, q);
+          whole = rw (b, n, q, l .1);
         }

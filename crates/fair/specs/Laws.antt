@@ -3,28 +3,28 @@ use mathlib.Core.Path.{_≡_}
 use mathlib.Core.Bool.{true, false}
 use mathlib.Core.Option.{some}
 use Prim.Native.Nat.{ℕ, _<_}
-use lib.ListN.{length, getD, set}
+use lib.ListN.{length, getD}
 use Rattle.units.specs.Limits.{placeCount}
 use Rattle.units.specs.Refusals.{firstOf}
 use Rattle.units.specs.declared.Refusal.{Refusal}
 use Rattle.units.specs.declared.Tag.{Tag}
 use Rattle.places.specs.Places.{flowOf}
-use Rattle.places.specs.Choice.{comesBefore}
+use Rattle.places.specs.Choice.{at, comesBefore}
 use Rattle.tags.specs.declared.Packet.{Packet}
 use Rattle.tags.specs.Tags.{freePacket, isHeld}
 use Rattle.fair.specs.declared.Fair.{Fair}
 use Rattle.fair.specs.declared.Answer.the-variants.{Begun}
 use Rattle.tags.specs.Grounds.{openingGrounds, closingGrounds, offeringGrounds}
 use Rattle.fair.specs.Lane.{flowAt, waitingOf, busyWith, startOf, keyOf, beginGrounds, endGrounds}
-use Rattle.fair.specs.Calls.{openOf, closeOf, offerOf, beginOf, endOf}
+use Rattle.fair.specs.Calls.{openOf, closeOf, offerOf, begun, beginOf, endOf}
 use Rattle.fair.specs.Answers.{refusalIn}
 
 -- what a place holds
 abbrev pub packetAt : Fair → ℕ → Packet
 packetAt u place = getD (u .packets) place freePacket
 
--- the packet that a begin answers waited in some place, no waiting packet comes before it by start tag, flow and number, and of the
--- places the begin frees just that one
+-- the packet that a begin answers waited in some place, no waiting packet comes before it by start tag, flow and number, and the begin is
+-- of just that place: it is freed, its packet goes into service, and virtual time is its start tag
 pub record BegunFirst (u : Fair) (flow number bytes : ℕ) (start : Tag) : Type 0 where
   pub place : ℕ
   pub within : place < length (u .packets)
@@ -36,7 +36,7 @@ pub record BegunFirst (u : Fair) (flow number bytes : ℕ) (start : Tag) : Type 
   pub goesFirst :
       (other : ℕ) → isHeld (packetAt u other) ≡ true
       → comesBefore (keyOf other (packetAt u other)) (keyOf place (packetAt u place)) ≡ false
-  pub freed : beginOf u .lane .packets ≡ set (u .packets) place freePacket
+  pub whole : beginOf u ≡ begun u (at place (packetAt u place))
 
 -- Every begin that is not refused begins the packet that goes first.
 abbrev pub BeginsFirst : Type 0

@@ -1,4 +1,5 @@
--- What a line is read as, byte by byte, and the law by which a reader may go instead: a line is read as a call exactly where it is the call's one text.
+-- What a line is read as, byte by byte, and the law by which a reader may go instead: a line is read as a call exactly where it
+-- is the call's one text and its numbers are small enough.
 use mathlib.Core.Bool.{cond}
 use mathlib.Core.List.{List, [], _∷_}
 use mathlib.Core.Option.{Option, none, some}
@@ -63,6 +64,6 @@ ReadsOneText =
     × ((c : Call) → line ≡ textOf c → Small c → readCall line ≡ some c)
     × (((c : Call) → line ≡ textOf c → Small c → ⊥) → readCall line ≡ none)
 
--- No call's text is longer than 23 bytes, so that no limit of 32 bytes shuts one out.
+-- No call with numbers small enough has a text longer than 23 bytes, so that no limit of 32 bytes shuts one out.
 abbrev pub TextsFit : Type 0
 TextsFit = (c : Call) → Small c → length (textOf c) ≤ 23

@@ -3,6 +3,7 @@ use mathlib.Core.Path.{refl}
 use Rattle.text.specs.Spelled.{bytesOf}
 use Rattle.lists.specs.Laws.{ListPromises}
 use Rattle.lists.proofs.Texts.{reads-one-list}
+use Rattle.lists.proofs.Answered.{lists-spelled, lines-answered}
 use Rattle.lists.proofs.Pieces.{fed-in-pieces, takes-on}
 
 pub list-promises : ListPromises
@@ -10,7 +11,9 @@ unfolding bytesOf
 list-promises =
     record {
       D1 = reads-one-list;
-      D2 = record { admitted = refl; fails = λ t. refl; refused = λ r. refl; refusedAt = λ r k. refl };
+      D1-text = lists-spelled;
+      D2 = lines-answered;
+      D2-lines = record { admitted = refl; fails = λ t. refl; refused = λ r. refl; refusedAt = λ r k. refl };
       D3 = fed-in-pieces;
       D4 = takes-on;
     }

@@ -4,4 +4,5 @@ pub mod Heard
 pub mod Texts
 pub mod Steps
 pub mod Pieces
+pub mod Answered
 pub mod Laws

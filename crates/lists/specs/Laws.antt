@@ -9,6 +9,7 @@ use Rattle.lists.specs.declared.Reading.{Reading}
 use Rattle.lists.specs.Reading.{ReadsOneList}
 use Rattle.lists.specs.Printing.{longest, VerdictsSpelled}
 use Rattle.lists.specs.Whole.{verdictsOf}
+use Rattle.lists.specs.Answered.{ListsSpelled, LinesAnswered}
 use Rattle.lists.specs.Steps.{freshReading, stepOf, finishOf}
 
 -- What is written for any pieces, one after the other, and then for the end of the input, is what the whole of them is answered.
@@ -28,8 +29,12 @@ TakesOn =
 pub record ListPromises : Type 0 where
   -- D1: a line is read as a list exactly where it is the list's one text and its numbers are at most 4,294,967,295
   pub D1 : ReadsOneList
-  -- D2: each verdict's line is spelled as the rules spell it
-  pub D2 : VerdictsSpelled
+  -- and a list's text is spelled as the rules spell it
+  pub D1-text : ListsSpelled
+  -- D2: a list's text is answered by the line of its verdict, every other line by `no 11`
+  pub D2 : LinesAnswered
+  -- and each verdict's line is spelled as the rules spell it
+  pub D2-lines : VerdictsSpelled
   -- D3: a whole input is one definition, bytes to bytes, and fed in any pieces the program's steps write it
   pub D3 : FedInPieces
   -- D4: with room for a line, no piece is left waiting

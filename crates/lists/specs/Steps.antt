@@ -8,6 +8,7 @@ use Rattle.units.specs.declared.Refusal.the-variants.{NoCommand}
 use Rattle.admission.specs.declared.Declaration.{Declaration}
 use Rattle.admission.specs.declared.Verdict.{Verdict}
 use Rattle.admission.specs.declared.Verdict.the-variants.{Refused}
+use Rattle.admission.specs.Tables.{noDeclaration}
 use Rattle.admission.specs.Verdicts.{admitOf}
 use Rattle.text.specs.Reading.{blank}
 use Rattle.text.specs.Lines.{lineFeed}
@@ -15,10 +16,6 @@ use Rattle.text.specs.Feeding.{Step}
 use Rattle.lists.specs.declared.Reading.{Reading}
 use Rattle.lists.specs.Reading.{freshHand, takesOf, wholeAt, declared}
 use Rattle.lists.specs.Printing.{verdictLine}
-
--- what stands in a place that no declaration was put in
-abbrev pub noDeclaration : Declaration
-noDeclaration = record { burst = 0; period = 0; deadline = 0 }
 
 -- before any byte of a line
 abbrev pub freshReading : Reading

@@ -1,4 +1,5 @@
 pub mod Run
+pub mod Bytes
 pub mod Sessions
 pub mod Texts
 pub mod Promises

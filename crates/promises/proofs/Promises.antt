@@ -19,6 +19,7 @@ use Rattle.promises_fair.proofs.Account.{offer-told as packet-told}
 use Rattle.promises.specs.Run.{fresh, run}
 use Rattle.promises.specs.Promises.{Promises}
 use Rattle.promises.proofs.Run.{run-on, good-run, fair-run, time-run, refused-as-noted, urgent-only, fair-only}
+use Rattle.promises.proofs.Bytes.{decimals-spelled, lines-cut}
 use Rattle.promises.proofs.Sessions.{calls-answered, others-answered}
 use Rattle.promises.proofs.Texts.{commands-spelled, replies-spelled}
 
@@ -34,6 +35,7 @@ promises =
       S2-order = grounds-in-order;
       S2-numbers = refl;
       S2-never4 = never-4;
+      S2-limits = record { flows = λ flow. refl; places = refl; weights = λ weight. refl; deadlines = λ deadline. refl; lengths = λ length. refl; slots = refl; tags = refl; numbers = refl };
       S3-urgent = urgent-only;
       S3-fair = fair-only;
       S4 = refused-as-noted;
@@ -65,8 +67,10 @@ promises =
       P1 = reads-one-text;
       P1-others = others-answered;
       P1-commands = commands-spelled;
+      P1-decimals = decimals-spelled;
       P2 = calls-answered;
       P2-lines = replies-spelled;
       P3 = fed-in-pieces;
+      P3-lines = lines-cut;
       P3-takes = takes-on;
     }

@@ -1,4 +1,6 @@
 pub mod Run
+pub mod Numbers
+pub mod Bytes
 pub mod Sessions
 pub mod Texts
 pub mod Promises

@@ -6,7 +6,6 @@ use mathlib.Core.Option.{none}
 use Prim.Native.Nat.{ℕ, _+_, _%_, _≤_, _<_}
 use Rattle.units.specs.Refusals.{Ground, numberOf, firstOf}
 use Rattle.units.specs.declared.Refusal.{Refusal}
-use Rattle.units.specs.declared.Refusal.the-variants.{NoSuchFlow, NotOpen, AlreadyOpen, PlacesFull, TagsUsedUp, SlotsUsedUp, PacketInService, NothingWaits, NothingInService, NoCommand, FlowInUse, BadWeight, BadDeadline, BadLength, ListTooLong, BadBurst, BadPeriod}
 use Rattle.units.specs.Charges.{ProductRule}
 use Rattle.units.specs.Radio.{slotsPassed}
 use Rattle.admission.specs.Published.{Published}
@@ -24,6 +23,8 @@ use Rattle.station.specs.InKind.{AnsweredInKind}
 use Rattle.station.specs.Laws.{RefusedFirst, NumberTold, GroundsInOrder, RefusedSame, isUrgent}
 use Rattle.lines.specs.Reading.{ReadsOneText}
 use Rattle.session.specs.Laws.{FedInPieces, TakesOn}
+use Rattle.promises.specs.Numbers.{RefusalsNumbered, LimitsSaid}
+use Rattle.promises.specs.Bytes.{DecimalsSpelled, LinesCut}
 use Rattle.promises.specs.Sessions.{CallsAnswered, OthersAnswered}
 use Rattle.promises.specs.Texts.{CommandsSpelled, RepliesSpelled}
 use Rattle.promises.specs.Run.{Run, run, runFrom, replyTo, onUrgent, onFair, replies, repliesTo, only}
@@ -31,28 +32,6 @@ use Rattle.promises.specs.Run.{Run, run, runFrom, replyTo, onUrgent, onF
 -- calls of the fair lane
 abbrev pub isFair : Call → Bool
 isFair call = not (isUrgent call)
-
--- the refusals in the order of their numbers
-abbrev pub byNumber : List Refusal
-byNumber =
-    NoSuchFlow
-    ∷ NotOpen
-    ∷ AlreadyOpen
-    ∷ PlacesFull
-    ∷ TagsUsedUp
-    ∷ SlotsUsedUp
-    ∷ PacketInService
-    ∷ NothingWaits
-    ∷ NothingInService
-    ∷ NoCommand
-    ∷ FlowInUse
-    ∷ BadWeight
-    ∷ BadDeadline
-    ∷ BadLength
-    ∷ ListTooLong
-    ∷ BadBurst
-    ∷ BadPeriod
-    ∷ []
 
 -- what a call is refused for, read off the calls and replies so far: open is opened and not closed since; waiting is accepted, not sent
 -- and not gone by, or accepted and not begun; in service is a begin answered and no end since; the slot is U0's and the tags are F1's
@@ -79,9 +58,10 @@ pub record Promises : Type 0 where
   pub S2 : RefusedFirst
   pub S2-number : NumberTold
   pub S2-order : GroundsInOrder
-  -- and the refusals have the rules' numbers, of which 4 is none
-  pub S2-numbers : map numberOf byNumber ≡ 1 ∷ 2 ∷ 3 ∷ 5 ∷ 6 ∷ 7 ∷ 8 ∷ 9 ∷ 10 ∷ 11 ∷ 12 ∷ 13 ∷ 14 ∷ 15 ∷ 16 ∷ 17 ∷ 18 ∷ []
+  -- and the refusals have the rules' numbers, of which 4 is none, and their conditions the rules' limits
+  pub S2-numbers : RefusalsNumbered
   pub S2-never4 : (refusal : Refusal) → numberOf refusal ≡ 4 → ⊥
+  pub S2-limits : LimitsSaid
   -- S3: the lanes share nothing: the replies to one lane's calls are the replies to those calls alone
   pub S3-urgent : (calls : List Call) → repliesTo isUrgent freshStation calls ≡ replies freshStation (only isUrgent calls)
   pub S3-fair : (calls : List Call) → repliesTo isFair freshStation calls ≡ replies freshStation (only isFair calls)
@@ -139,13 +119,15 @@ pub record Promises : Type 0 where
   -- answered `no 11`, once, and leaves the station as it was
   pub P1 : ReadsOneText
   pub P1-others : OthersAnswered
-  -- and each call's text is spelled as the rules spell it
+  -- and each call's text is spelled as the rules spell it, every number in decimal
   pub P1-commands : CommandsSpelled
-  -- P2: a call's text is answered by exactly the line of its reply
+  pub P1-decimals : DecimalsSpelled
+  -- P2: the text of a call with such numbers is answered by exactly the line of its reply
   pub P2 : CallsAnswered
   -- and each reply's line is spelled as the rules spell it, a refusal's by its number
   pub P2-lines : RepliesSpelled
-  -- P3: a whole session is one definition, bytes to bytes, and fed in any pieces the program's steps write it
+  -- P3: a whole session is one definition, bytes to bytes, and fed in any pieces the program's steps write it; its lines are cut at line feeds
   pub P3 : FedInPieces
+  pub P3-lines : LinesCut
   -- and with room for a line, no piece is left waiting
   pub P3-takes : TakesOn

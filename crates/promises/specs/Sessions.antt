@@ -9,7 +9,7 @@ use Rattle.lines.specs.Grammar.{textOf, Small}
 use Rattle.replies.specs.Printing.{noCommandLine, lineOf}
 use Rattle.session.specs.Whole.{answersOf}
 
--- a line that is a call's text is answered by the line of the call's reply, and the session goes on from the station after it
+-- a line that is the text of a call with small numbers is answered by the line of the call's reply, and the session goes on from the station after it
 abbrev pub CallsAnswered : Type 0
 CallsAnswered =
     (s : Station) (call : Call) (lines : List (List ℕ)) → Small call

@@ -13,7 +13,6 @@ use Rattle.station.specs.declared.Call.the-variants.{OpenUrgent, OpenFair, Clos
 use Rattle.station.specs.declared.Reply.{Reply}
 use Rattle.station.specs.declared.Reply.the-variants.{Urgent, Fair}
 use Rattle.station.specs.Answers.{told}
-use Rattle.text.specs.Decimal.{decimalOf}
 use Rattle.lines.specs.Grammar.{textOf}
 use Rattle.replies.specs.Printing.{noCommandLine, lineOf}
 
