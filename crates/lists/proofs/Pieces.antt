@@ -21,7 +21,7 @@ use Rattle.text.specs.Lines.{lineFeed}
 use Rattle.text.specs.Input.{onto, linesOf, joined}
 use Rattle.text.specs.Feeding.{Step, fedBy}
 use Rattle.text.proofs.Input.{begun, begun-more, begun-ended}
-use Rattle.text.proofs.Feeding.{as-one, takes-some, takes-all}
+use Rattle.text.proofs.Feeding.{as-one, takes-on-by}
 use Rattle.lists.specs.declared.Reading.{Reading}
 use Rattle.lists.specs.Reading.{takesOf, wholeAt, declared, Line, freshLine, lineStep, lineFrom, heardAs, readList}
 use Rattle.lists.specs.Printing.{longest, verdictLine}
@@ -185,4 +185,4 @@ unfolding begun
 fed-in-pieces pieces = rw (as-one stepOf freshReading pieces) (as-lines (joined pieces) freshReading [] fresh-holds)
 
 pub takes-on : TakesOn
-takes-on r input room = (takes-some stepOf longest r input room, takes-all stepOf longest r input room)
+takes-on = takes-on-by stepOf longest

@@ -1,11 +1,5 @@
 -- What holds of every input of lists: its output does not hang on how the input is cut into pieces, and no piece is left waiting for ever.
-use mathlib.Core.List.{List, _++_}
-use mathlib.Core.Path.{_≡_}
-use Prim.Native.Nat.{ℕ, _+_, _≤_, _<_}
-use lib.ListN.{length}
-use Rattle.text.specs.Input.{joined}
-use Rattle.text.specs.Feeding.{fedBy, piecesBy, takenBy}
-use Rattle.lists.specs.declared.Reading.{Reading}
+use Rattle.text.specs.Feeding.{FedInPiecesBy, TakesOnBy}
 use Rattle.lists.specs.Reading.{ReadsOneList}
 use Rattle.lists.specs.Printing.{longest, VerdictsSpelled}
 use Rattle.lists.specs.Whole.{verdictsOf}
@@ -14,16 +8,11 @@ use Rattle.lists.specs.Steps.{freshReading, stepOf, finishOf}
 
 -- What is written for any pieces, one after the other, and then for the end of the input, is what the whole of them is answered.
 abbrev pub FedInPieces : Type 0
-FedInPieces =
-    (pieces : List (List ℕ))
-    → piecesBy stepOf freshReading pieces .text ++ finishOf (piecesBy stepOf freshReading pieces .state) ≡ verdictsOf (joined pieces)
+FedInPieces = FedInPiecesBy stepOf finishOf freshReading verdictsOf
 
 -- With room for the longest line some byte of an input is taken, and with room for all that is written and one line more, every byte.
 abbrev pub TakesOn : Type 0
-TakesOn =
-    (r : Reading) (input : List ℕ) (room : ℕ)
-    → (longest ≤ room → 0 < length input → 0 < takenBy stepOf longest r input room)
-    × (length (fedBy stepOf r input .text) + longest ≤ room → takenBy stepOf longest r input room ≡ length input)
+TakesOn = TakesOnBy stepOf longest
 
 -- What is promised of the lines of lists.
 pub record ListPromises : Type 0 where

@@ -3,24 +3,25 @@
 use mathlib.Core.Path.{_≡_, refl, sym, _∙_, ap}
 use mathlib.Core.Bool.{Bool, true, false, cond}
 use mathlib.Core.List.{List, [], _∷_, _++_, append-assoc, append-nil}
-use Prim.Native.Nat.{ℕ, suc, _+_, _-_, _≤_, _<_}
+use Prim.Native.Nat.{ℕ, _+_, _≤_, _<_}
 use native.Mathlib.Decide.{decLt}
 use native.Mathlib.Numerals.{add-one}
 use native.Mathlib.Omega.{arith}
-use borrow.Author.Tests.{eq-eqb, ne-eqb, le-ltb, lt-leb, eqb-true, eqb-false}
+use borrow.Author.Tests.{eq-eqb, ne-eqb, lt-leb, eqb-true, eqb-false}
 use lib.Dec.{eqb}
 use lib.ListN.{length, take, set, length-append, length-set}
 use lib.Seq.{take-suc-set}
 use Rattle.text.specs.Lines.{lineFeed}
+use Rattle.text.specs.Input.{onto, linesOf, joined}
+use Rattle.text.specs.Feeding.{Step, fedBy}
+use Rattle.text.proofs.Input.{begun, begun-more, begun-ended}
+use Rattle.text.proofs.Feeding.{as-one, takes-on-by}
 use Rattle.replies.specs.Printing.{longest}
 use Rattle.session.specs.declared.Session.{Session}
-use Rattle.session.specs.declared.Fed.{Fed}
-use Rattle.text.specs.Input.{onto, linesOf, joined}
-use Rattle.text.proofs.Input.{begun, begun-more, begun-ended}
 use Rattle.session.specs.Whole.{heardAs, answerOf, answersOf}
-use Rattle.session.specs.Steps.{Step, freshSession, keptAs, answeredBy, ended, stepOf, fedOf, finishOf, takenOf, Feeds}
-use Rattle.session.specs.Laws.{fedPieces, FedInPieces, TakesOn}
-use Rattle.session.proofs.Going.{fed-append, step-kept, step-long}
+use Rattle.session.specs.Steps.{freshSession, keptAs, answeredBy, ended, stepOf, finishOf}
+use Rattle.session.specs.Laws.{FedInPieces, TakesOn}
+use Rattle.session.proofs.Steps.{step-kept, step-long}
 
 -- the session keeps this line
 record Holds (s : Session) (line : List ℕ) : Type 0 where
@@ -80,11 +81,11 @@ module _ (s : Session) (line : List ℕ) (b : ℕ) (h : Holds s line) where
 
 -- what the session still writes for an input
 abbrev written : Session → List ℕ → List ℕ
-written s input = fedOf s input .text ++ finishOf (fedOf s input .session)
+written s input = fedBy stepOf s input .text ++ finishOf (fedBy stepOf s input .state)
 
-written-next : (s : Session) (b : ℕ) (input : List ℕ) (t : Step) → stepOf s b ≡ t → written s (b ∷ input) ≡ t .text ++ written (t .session) input
-unfolding fedOf
-written-next s b input t e = rw (e, append-assoc (t .text) (fedOf (t .session) input .text) (finishOf (fedOf (t .session) input .session)))
+written-next : (s : Session) (b : ℕ) (input : List ℕ) (t : Step Session) → stepOf s b ≡ t → written s (b ∷ input) ≡ t .text ++ written (t .state) input
+unfolding fedBy
+written-next s b input t e = rw (e, append-assoc (t .text) (fedBy stepOf (t .state) input .text) (finishOf (fedBy stepOf (t .state) input .state)))
 
 step-ended : (s : Session) (b : ℕ) → b ≡ lineFeed → stepOf s b ≡ ended s
 unfolding stepOf
@@ -96,7 +97,7 @@ line-ended : (s : Session) (line : List ℕ) (b : ℕ) (input : List ℕ) → Ho
 unfolding answersOf begun
 line-ended s line b input h e r =
     written-next s b input (ended s) (step-ended s b e)
-    ∙ ap (λ (text : List ℕ). answeredBy s .text ++ text) (r (ended s .session) (holds-none (ended s .session) (h .long) refl))
+    ∙ ap (λ (text : List ℕ). answeredBy s .text ++ text) (r (ended s .state) (holds-none (ended s .state) (h .long) refl))
     ∙ rw (heard-same s line h, begun-ended line (linesOf input))
 
 -- any other byte makes the line longer
@@ -110,7 +111,7 @@ line-goes s line b input h e r = go (decLt (length line) 32) ∙ ap (answersOf (
     go (no l) = written-next s b input _ (step-long s b e (count-over s line b h (omega arith))) ∙ r _ (holds-over s line b h (omega arith))
 
 as-lines : (input : List ℕ) (s : Session) (line : List ℕ) → Holds s line → written s input ≡ answersOf (s .station) (begun line (linesOf input))
-unfolding fedOf linesOf
+unfolding fedBy linesOf
 as-lines [] s line h = finish-same s line h
 as-lines (b ∷ input) s line h = go (eqb b lineFeed) refl (as-lines input)
   where
@@ -119,32 +120,9 @@ as-lines (b ∷ input) s line h = go (eqb b lineFeed) refl (as-lines input)
     go true e r = line-ended s line b input h (eqb-true b lineFeed e) (λ n k. r n [] k)
     go false e r = line-goes s line b input h (eqb-false b lineFeed e) (λ n k. r n (line ++ b ∷ []) k)
 
--- pieces one after the other are the input that they make together
-as-one : (s : Session) (pieces : List (List ℕ)) → fedPieces s pieces ≡ fedOf s (joined pieces)
-unfolding fedPieces joined fedOf
-as-one s [] = refl
-as-one s (piece ∷ pieces) = rw (as-one (fedOf s piece .session) pieces) (sym (fed-append s piece (joined pieces)))
-
 pub fed-in-pieces : FedInPieces
 unfolding begun
-fed-in-pieces pieces = rw (as-one freshSession pieces) (as-lines (joined pieces) freshSession [] (holds-none freshSession refl refl))
-
--- some byte is taken, and all bytes where there is room
-takes-some : (s : Session) (input : List ℕ) (room : ℕ) → longest ≤ room → 0 < length input → 0 < takenOf s input room
-unfolding takenOf
-takes-some s [] room l h = absurd (omega arith)
-takes-some s (b ∷ input) room l h = rw (le-ltb room longest l) (omega arith)
-
-takes-all : (s : Session) (input : List ℕ) (room : ℕ) → length (fedOf s input .text) + longest ≤ room → takenOf s input room ≡ length input
-unfolding takenOf fedOf
-takes-all s [] room l = refl
-takes-all s (b ∷ input) room l =
-    let n = length-append (stepOf s b .text) (fedOf (stepOf s b .session) input .text) in
-    rw (le-ltb room longest (omega arith)) (ap suc (takes-all (stepOf s b .session) input (room - length (stepOf s b .text)) (omega arith)))
+fed-in-pieces pieces = rw (as-one stepOf freshSession pieces) (as-lines (joined pieces) freshSession [] (holds-none freshSession refl refl))
 
 pub takes-on : TakesOn
-takes-on s input room = (takes-some s input room, takes-all s input room)
-
--- with room for a line, feeding takes some byte of an input that has one
-pub feed-takes : {s : Session} {input was is : List ℕ} {fed : Fed} → Feeds s input was is fed → longest ≤ length was → 0 < length input → 0 < fed .read
-feed-takes {s} {input} {was} f l h = omega (arith, f .read, takes-some s input (length was) l h)
+takes-on = takes-on-by stepOf longest

@@ -3,7 +3,9 @@ mod answering;
 
 ghost use mathlib.Core.Path.{_≡_};
 ghost use Rattle.text.specs.Lines.{Printed};
-ghost use Rattle.session.specs.Steps.{freshSession, finishOf, Feeds};
+ghost use Rattle.text.specs.Feeding.{FeedsBy};
+ghost use Rattle.replies.specs.Printing.{longest};
+ghost use Rattle.session.specs.Steps.{freshSession, stepOf, finishOf};
 use answering::no_command;
 use answering::read;
 use answering::reply;
@@ -43,7 +45,7 @@ impl Session {
     // Takes as much of the input as out has room for, and writes the answers of its lines at the start of out. The lanes are
     // taken apart so that a line moves only the lane it calls; the answers that they start with are read by nobody.
     pub fn feed(self, input: &[u8], out: &mut [u8]) -> Fed
-        ensures { λ r. ⌜ Feeds self (now (input .entry)) (now (out .entry)) (now (out .exit)) r ⌝ }
+        ensures { λ r. ⌜ FeedsBy stepOf longest self (now (input .entry)) (now (out .entry)) (now (out .exit)) (r .session) (r .read) (r .written) ⌝ }
     {
         let station = self.station;
         let urgent_lane = station.urgent;

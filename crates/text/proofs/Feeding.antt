@@ -9,7 +9,7 @@ use lib.ListN.{length, take, drop, getD, length-append, drop-of-length-le}
 use lib.Seq.{take-suc, drop-cons, take-at, drop-at, drop-drop}
 use Rattle.text.specs.Input.{joined}
 use Rattle.text.specs.Lines.{Put}
-use Rattle.text.specs.Feeding.{Step, after, fedBy, piecesBy, takenBy, FeedsBy}
+use Rattle.text.specs.Feeding.{Step, after, fedBy, piecesBy, takenBy, FeedsBy, TakesOnBy}
 use Rattle.text.proofs.Placing.{put-fits}
 
 module _ {S : Type 0} (step : S → ℕ → Step S) where
@@ -45,17 +45,20 @@ module _ {S : Type 0} (step : S → ℕ → Step S) where
     taken-full s (b ∷ bs) room l = rw (lt-ltb room longest l)
 
     -- with room for the longest text some byte is taken, and with room for all and one more every byte
-    pub takes-some : (s : S) (input : List ℕ) (room : ℕ) → longest ≤ room → 0 < length input → 0 < takenBy step longest s input room
+    takes-some : (s : S) (input : List ℕ) (room : ℕ) → longest ≤ room → 0 < length input → 0 < takenBy step longest s input room
     unfolding takenBy
     takes-some s [] room l h = absurd (omega arith)
     takes-some s (b ∷ input) room l h = rw (le-ltb room longest l) (omega arith)
 
-    pub takes-all : (s : S) (input : List ℕ) (room : ℕ) → length (fedBy step s input .text) + longest ≤ room → takenBy step longest s input room ≡ length input
+    takes-all : (s : S) (input : List ℕ) (room : ℕ) → length (fedBy step s input .text) + longest ≤ room → takenBy step longest s input room ≡ length input
     unfolding takenBy fedBy
     takes-all s [] room l = refl
     takes-all s (b ∷ input) room l =
         let n = length-append (step s b .text) (fedBy step (step s b .state) input .text) in
         rw (le-ltb room longest (omega arith)) (ap suc (takes-all (step s b .state) input (room - length (step s b .text)) (omega arith)))
+
+    pub takes-on-by : TakesOnBy step longest
+    takes-on-by s input room = (takes-some s input room, takes-all s input room)
 
     -- after i bytes of an input the state is now, and w bytes are written
     pub record Going (s : S) (input was is : List ℕ) (now : S) (i w : ℕ) : Type 0 where

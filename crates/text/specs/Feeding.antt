@@ -1,10 +1,11 @@
--- Bytes fed to a state, which writes text at each of them: piece after piece, into lent room.
+-- Bytes fed to a state, which writes text at each of them: piece after piece, into lent room; and what is promised of that.
 use mathlib.Core.Bool.{cond}
 use mathlib.Core.List.{List, [], _∷_, _++_}
 use mathlib.Core.Path.{_≡_}
-use Prim.Native.Nat.{ℕ, suc, _-_, _≤_}
+use Prim.Native.Nat.{ℕ, suc, _+_, _-_, _≤_, _<_}
 use lib.Dec.{ltb}
 use lib.ListN.{length, take, drop}
+use Rattle.text.specs.Input.{joined}
 
 -- the state after some bytes, and what was written for them
 pub record Step (S : Type 0) : Type 0 where
@@ -39,3 +40,16 @@ pub record FeedsBy {S : Type 0} (step : S → ℕ → Step S) (longest : ℕ) (s
   pub bytes : is ≡ fedBy step s (take read input) .text ++ drop written was
   pub within : read ≤ length input
   pub fits : written ≤ length is
+
+-- What is written for any pieces, one after the other, and then for the end of the input, is what the whole of them is answered.
+abbrev pub FedInPiecesBy : {S : Type 0} → (S → ℕ → Step S) → (S → List ℕ) → S → (List ℕ → List ℕ) → Type 0
+FedInPiecesBy step finish fresh whole =
+    (pieces : List (List ℕ))
+    → piecesBy step fresh pieces .text ++ finish (piecesBy step fresh pieces .state) ≡ whole (joined pieces)
+
+-- With room for the longest text some byte of an input is taken, and with room for all that is written and one text more, every byte.
+abbrev pub TakesOnBy : {S : Type 0} → (S → ℕ → Step S) → ℕ → Type 0
+TakesOnBy {S} step longest =
+    (s : S) (input : List ℕ) (room : ℕ)
+    → (longest ≤ room → 0 < length input → 0 < takenBy step longest s input room)
+    × (length (fedBy step s input .text) + longest ≤ room → takenBy step longest s input room ≡ length input)

@@ -6,7 +6,8 @@ use native.Mathlib.Omega.{arith}
 use borrow.Author.Needs.{needs}
 use lib.ListN.{length, take, drop, length-drop}
 use lib.Seq.{length-take-le}
-use Rattle.session.proofs.Pieces.{feed-takes}
+use Rattle.text.proofs.Feeding.{feed-takes}
+use Rattle.session.specs.Steps.{stepOf}
 use Rattle.tuhkeliar.proofs.answer.Statement.{statement}
 use Rattle.tuhkeliar.proofs.answer.Tie as tie
 
@@ -55,7 +56,7 @@ loop-less c =
     let l = f .before .before .before .before .loop in
     let piece = f .before .before .before .before .before .before .before .args .piece .now in
     let n : length (take (length piece - l .from) (drop (l .from) piece)) ≡ length piece - l .from = length-take-le (length piece - l .from) (drop (l .from) piece) (omega (arith, length-drop (l .from) piece)) in
-    omega (arith, feed-takes (f .feed .ensures) (search needs) (omega arith))
+    omega (arith, feed-takes stepOf 96 (f .feed .ensures) (search needs) (omega arith))
 
 loop-again : tie.Need-loop-again Inv-loop μ-loop
 loop-again c = search needs

@@ -7,14 +7,17 @@ use native.Mathlib.Omega.{arith}
 use borrow.Author.Needs.{needs}
 use lib.ListN.{length, getD}
 use Rattle.station.specs.Calls.{byUrgent, byFair, callOf}
+use Rattle.text.proofs.Feeding.{Going, going-starts, going-on, at-end, at-full}
 use Rattle.text.proofs.Placing.{put-nothing}
-use Rattle.session.proofs.Going.{Going, lanes, called, together, answered, going-starts, going-on, arrived, at-end, at-full, step-call, step-none, step-kept, step-long}
+use Rattle.replies.specs.Printing.{longest}
+use Rattle.session.specs.Steps.{stepOf}
+use Rattle.session.proofs.Steps.{lanes, called, together, answered, arrived, step-call, step-none, step-kept, step-long}
 use Rattle.session.proofs.Session.feed.Statement.{statement}
 use Rattle.session.proofs.Session.feed.Tie as tie
 
 abbrev Inv-loop : tie.InvT-loop
 Inv-loop input out₀ urgent₀ fair₀ kept₀ count₀ i₀ w₀ out urgent fair kept count i w =
-    (i ≤ length input) × Going (together urgent₀ fair₀ kept₀ count₀) input out₀ out (together urgent fair kept count) i w
+    (i ≤ length input) × Going stepOf longest (together urgent₀ fair₀ kept₀ count₀) input out₀ out (together urgent fair kept count) i w
 
 abbrev μ-loop : tie.MeasureT-loop
 μ-loop input out₀ urgent₀ fair₀ kept₀ count₀ i₀ w₀ out urgent fair kept count i w = length input - i
@@ -22,7 +25,7 @@ abbrev μ-loop : tie.MeasureT-loop
 loop-holds : tie.Need-loop-holds Inv-loop μ-loop
 loop-holds c =
     let s = c .before .before .before .before .before .before .args in
-    (search needs, going-starts (s .self) (s .input .now) (s .out .now))
+    (search needs, going-starts stepOf longest (s .self) (s .input .now) (s .out .now))
 
 sub-if1 : tie.Need-sub-if1 Inv-loop μ-loop
 sub-if1 c = omega (arith, c .before .loop .inv .1 .fits, c .before .loop .inv .1 .long)
@@ -141,7 +144,7 @@ loop-again c =
     let l = at-loop .loop in
     let b = getD (at-loop .before .before .before .before .before .before .before .args .input .now) (l .i) 0 in
     let now = together (l .urgent) (l .fair) (l .kept) (l .count) in
-    let on = going-on (l .inv .1) (c .before .before .before .loop-test .taken) (omega (arith, c .before .before .if1 .left, l .inv .1 .long)) in (
+    let on = going-on stepOf longest (l .inv .1) (c .before .before .before .loop-test .taken) (omega (arith, c .before .before .if1 .left, l .inv .1 .long)) in (
       search needs,
       ⊎-elim (λ w. arrived (w .10) (w .11) (w .12) (w .13) (w .14) (w .15) (on _ (step-call now b (w .0 .taken) (w .1 .ensures) (w .3 .given .1) (calls (record { before = record { before = record { before = record { before = record { before = record { before = c .before; if2 = w .0 }; read = w .1 }; match = w .2 }; call = w .3 }; known-told = w .4 }; match2 = w .5 }))) _ _ (w .7 .ensures)))
           (⊎-elim (λ w. arrived (w .8) (w .9) (w .10) (w .11) (w .12) (w .13) (on _ (step-none now b (w .0 .taken) (w .1 .ensures) (w .3 .given .1)) _ _ (w .5 .ensures)))
@@ -156,7 +159,7 @@ same-length c = c .before .before .before .loop .inv .1 .long
 returns : tie.Need-returns Inv-loop μ-loop
 returns c =
     let g = c .before .before .before .loop .inv in
-    ⊎-elim (λ o. at-end (g .1) (g .0) (o .left)) (λ o. at-full (g .1) (g .0) (omega (arith, o .1 .taken, g .1 .long))) (c .before .before .loop-test .came)
+    ⊎-elim (λ o. at-end stepOf longest (g .1) (g .0) (o .left)) (λ o. at-full stepOf longest (g .1) (g .0) (omega (arith, o .1 .taken, g .1 .long))) (c .before .before .loop-test .came)
 
 pub feed-spec : {M : Type 1} → statement M
 feed-spec =

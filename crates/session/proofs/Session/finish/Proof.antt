@@ -1,6 +1,6 @@
 -- `Session::finish` meets its contract: nothing for a line with no byte, and for any other what a line feed is answered.
 use borrow.Author.Needs.{needs}
-use Rattle.session.proofs.Going.{finish-empty, finish-fed}
+use Rattle.session.proofs.Steps.{finish-empty, finish-fed}
 use Rattle.session.proofs.Session.finish.Statement.{statement}
 use Rattle.session.proofs.Session.finish.Tie as tie
 
