@@ -12,7 +12,7 @@ use Rattle.lines.specs.Reading.{readCall}
 use Rattle.text.specs.Input.{linesOf}
 use Rattle.replies.specs.Printing.{noCommandLine, lineOf}
 
--- the call that a line asks for: none where it has more than 32 bytes, or is no call's text
+-- the call that a line asks for: none where it has more than 32 bytes, or is no text of a call with numbers small enough
 abbrev pub heardAs : List ℕ → Option Call
 heardAs line = cond (leb (length line) 32) (readCall line) none
 
