@@ -14,14 +14,6 @@ STATIONS = [
         ],
     ),
     (
-        'a turn tells that none was missed', 'urgent', 'promises_urgent', 'good-turned', [
-            ('specs/Calls.antt', 'answer = answer (count (lastIs (u .now)) cells);', 'answer = answer 0;'),
-            ('src/turning.rt', 'answering(best, sent, missed)', 'answering(best, sent, 0)'),
-            ('proofs/Calls.antt', 'cond (isHeld c) (Sent (place / 16) (c .number) missed) (Idle missed)', 'cond (isHeld c) (Sent (place / 16) (c .number) 0) (Idle 0)'),
-            ('proofs/Calls.antt', 'told, t, q .0, q .1)', 'told, t, q .0)'),
-        ],
-    ),
-    (
         'a drain leaves virtual time at the last start', 'fair', 'promises_fair', 'kept-end', [
             ('specs/Calls.antt', 'time = cond (eqb (waiting u) 0) (largestEnded u) (u .time);', 'time = cond (eqb (waiting u) 0) (u .time) (u .time);'),
             ('src/serving.rt', 'time = largest;', 'time = self.time;'),
