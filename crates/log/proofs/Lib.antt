@@ -1,0 +1,17 @@
+pub mod Forms
+pub mod Parts
+pub mod Tests
+pub mod Places
+pub mod Faults
+pub mod Numbers
+pub mod Back
+pub mod There
+pub mod Encoded
+pub mod Worked
+pub mod GoesOn
+pub mod Cut
+pub mod ByIndex
+pub mod Pairs
+pub mod Laws
+pub mod Words
+pub mod Held
