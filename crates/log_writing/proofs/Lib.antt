@@ -1,0 +1,4 @@
+pub mod Writing
+pub mod Pieces
+pub mod Wrote
+pub mod Worked
