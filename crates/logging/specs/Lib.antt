@@ -1,0 +1,4 @@
+pub mod Sorts
+pub mod Logging
+pub mod Listing
+pub mod Replay

@@ -1,0 +1,84 @@
+// What each call is to the log.
+ghost use mathlib.Core.Path.{_≡_};
+ghost use Rattle.station.specs.declared.Call.the-variants.{OpenUrgent, OpenFair, OfferCell, OfferPacket};
+ghost use Rattle.logging.specs.Sorts.{sortOf, sortedOf, closingSort};
+use crate::Sorted;
+use station::Call;
+use units::LAST_FLOW;
+
+// What a call is to the log.
+pub fn sort(call: Call) -> Sorted
+    ensures { λ r. ⌜ r ≡ sortedOf (sortOf call) ⌝ }
+{
+    match call {
+        Call::OpenUrgent(flow, deadline) => opens_urgent(flow, deadline),
+        Call::OpenFair(flow, weight) => opens_fair(flow, weight),
+        Call::CloseUrgent(flow) => closes(flow),
+        Call::CloseFair(flow) => closes(flow),
+        Call::OfferCell(flow) => cell(flow),
+        Call::OfferPacket(flow, length) => packet(flow, length),
+        Call::OpenTurn => Sorted::Happens(0),
+        Call::LostTurn => Sorted::Happens(1),
+        Call::Begin => Sorted::Happens(4),
+        Call::End => Sorted::Happens(5),
+    }
+}
+
+// What an opening of the urgent lane is.
+fn opens_urgent(flow: u64, deadline: u64) -> Sorted
+    ensures { λ r. ⌜ r ≡ sortedOf (sortOf (OpenUrgent flow deadline)) ⌝ }
+{
+    if LAST_FLOW < flow {
+        return Sorted::Beyond;
+    }
+    if units::bad_deadline(deadline) {
+        return Sorted::Beyond;
+    }
+    Sorted::OpensUrgent(flow as usize, deadline as u16)
+}
+
+// What an opening of the fair lane is.
+fn opens_fair(flow: u64, weight: u64) -> Sorted
+    ensures { λ r. ⌜ r ≡ sortedOf (sortOf (OpenFair flow weight)) ⌝ }
+{
+    if LAST_FLOW < flow {
+        return Sorted::Beyond;
+    }
+    if units::bad_weight(weight) {
+        return Sorted::Beyond;
+    }
+    Sorted::OpensFair(flow as usize, weight as u16)
+}
+
+// What a closing of either lane is.
+fn closes(flow: u64) -> Sorted
+    ensures { λ r. ⌜ r ≡ sortedOf (closingSort flow) ⌝ }
+{
+    if LAST_FLOW < flow {
+        return Sorted::Beyond;
+    }
+    Sorted::Closes
+}
+
+// What a cell is.
+fn cell(flow: u64) -> Sorted
+    ensures { λ r. ⌜ r ≡ sortedOf (sortOf (OfferCell flow)) ⌝ }
+{
+    if LAST_FLOW < flow {
+        return Sorted::Beyond;
+    }
+    Sorted::Happens((2 + 256 * flow) as u32)
+}
+
+// What a packet is.
+fn packet(flow: u64, length: u64) -> Sorted
+    ensures { λ r. ⌜ r ≡ sortedOf (sortOf (OfferPacket flow length)) ⌝ }
+{
+    if LAST_FLOW < flow {
+        return Sorted::Beyond;
+    }
+    if units::bad_length(length) {
+        return Sorted::Beyond;
+    }
+    Sorted::Happens((3 + 256 * flow + 65_536 * length) as u32)
+}
