@@ -1,0 +1,49 @@
+-- `difference` meets its contract: each answer by its own line.
+use borrow.Author.Needs.{needs}
+use Rattle.log_lines.proofs.answers.difference.Statement.{statement}
+use Rattle.log_lines.proofs.answers.difference.Tie as tie
+
+enum-known-place : tie.Need-enum-known-place
+enum-known-place c = search needs
+
+slice-aggregate-line : tie.Need-slice-aggregate-line
+slice-aggregate-line c = search needs
+
+line-requires : tie.Need-line-requires
+line-requires c κs = search needs
+
+enum-told : tie.Need-enum-told
+enum-told c = search needs
+
+slice-aggregate-line-2 : tie.Need-slice-aggregate-line-2
+slice-aggregate-line-2 c = search needs
+
+line-requires-2 : tie.Need-line-requires-2
+line-requires-2 c κs = search needs
+
+same-length : tie.Need-same-length
+same-length c = search needs
+
+returns : tie.Need-returns
+returns c = rw (c .before .before .before .before .before .before .place .given .1) (c .before .before .line .ensures)
+
+same-length-2 : tie.Need-same-length-2
+same-length-2 c = search needs
+
+returns-2 : tie.Need-returns-2
+returns-2 c = rw (c .before .before .before .before .before .enum-told .given .1) (c .before .before .line2 .ensures)
+
+pub difference-spec : {M : Type 1} → statement M
+difference-spec =
+    tie.close
+    (tie.spec
+    enum-known-place
+    slice-aggregate-line
+    line-requires
+    enum-told
+    slice-aggregate-line-2
+    line-requires-2
+    same-length
+    returns
+    same-length-2
+    returns-2)
