@@ -1,0 +1,9 @@
+pub mod Beyond
+pub mod Lanes
+pub mod Events
+pub mod Openings
+pub mod Again
+pub mod Sorts
+pub mod Logged
+pub mod Worked
+pub mod Promises

@@ -1,0 +1,1 @@
+// What is promised of the shift log: statements and proofs, no code.
