@@ -22,7 +22,7 @@ use Rattle.recorder.specs.declared.Recorder.{Recorder}
 use Rattle.recorder.specs.Laws.{recordedFrom, roomFrom}
 use Rattle.recorded.proofs.Wrote.{writes-logs}
 use Rattle.logbook.specs.declared.Logbook.{Logbook}
-use Rattle.logbook.specs.Whole.{callsBy, callsOf, callsIn}
+use Rattle.logbook.specs.Whole.{callsBy, heardIn, callsIn}
 use Rattle.logbook.specs.Steps.{freshLogbook, ended, roomEnded, stepOf, roomStep, fedOf, roomFed, finishOf, roomFinished}
 use Rattle.logbook.specs.Laws.{piecesOf, roomPieces, FedInPieces, LogsSessions}
 use Rattle.logbook.proofs.Steps.{together, Steps, step-heard, step-kept, step-long}
@@ -63,8 +63,8 @@ notes-next s b input room t is e h = (
   (λ j. roomFinished (fedOf (e .0 j) input) (roomFed (e .0 j) input (e .1 j))) ∙ h .1,
 )
 
-notes-end : (s : Logbook) (line room : List ℕ) → Holds s line → NotesCalls s [] room (callsOf (begun line []))
-unfolding fedOf roomFed callsOf begun recordedFrom roomFrom
+notes-end : (s : Logbook) (line room : List ℕ) → Holds s line → NotesCalls s [] room (heardIn (begun line []))
+unfolding fedOf roomFed heardIn begun recordedFrom roomFrom
 notes-end s [] room (whole l m n t) = rw (eq-eqb (s .count) 0 n) (refl, refl)
 notes-end s [] room (over l m n) = absurd (omega arith)
 notes-end s (x ∷ line) room h =
@@ -80,7 +80,7 @@ calls-on r (some call) calls room = (refl, refl)
 -- ---- one byte more
 -- the rest of an input is noted as its lines are, the first of them begun
 abbrev Again : List ℕ → List ℕ → Type 0
-Again input line = (s : Logbook) (room : List ℕ) → Holds s line → NotesCalls s input room (callsOf (begun line (linesOf input)))
+Again input line = (s : Logbook) (room : List ℕ) → Holds s line → NotesCalls s input room (heardIn (begun line (linesOf input)))
 
 module _ (s : Logbook) (line : List ℕ) (b : ℕ) where
   grown : length (line ++ b ∷ []) ≡ length line + 1
@@ -97,24 +97,24 @@ module _ (s : Logbook) (line : List ℕ) (b : ℕ) where
   holds-over (over l m n) k = over l (omega (arith, grown)) refl
 
   -- a line at its end is noted, and the next one begins
-  line-ended : (input room : List ℕ) → Holds s line → b ≡ lineFeed → Again input [] → NotesCalls s (b ∷ input) room (callsOf (begun line ([] ∷ linesOf input)))
-  unfolding callsOf begun
+  line-ended : (input room : List ℕ) → Holds s line → b ≡ lineFeed → Again input [] → NotesCalls s (b ∷ input) room (heardIn (begun line ([] ∷ linesOf input)))
+  unfolding heardIn begun
   line-ended input room h e again =
       let o = keptAs (s .kept) (s .count) in
       let lines = linesOf input in
-      let calls : callsOf (begun line ([] ∷ lines)) ≡ callsBy o ++ callsOf lines =
-      ap callsOf (begun-ended line lines) ∙ ap (λ (p : Option Call). callsBy p ++ callsOf lines) (sym (heard-same s line h)) in
+      let calls : heardIn (begun line ([] ∷ lines)) ≡ callsBy o ++ heardIn lines =
+      ap heardIn (begun-ended line lines) ∙ ap (λ (p : Option Call). callsBy p ++ heardIn lines) (sym (heard-same s line h)) in
       let rest = again (ended s) (roomEnded s room) (holds-none (ended s) (kept-long h) refl) in
-      let both = calls-on (s .recorder) o (callsOf lines) room in
+      let both = calls-on (s .recorder) o (heardIn lines) room in
       subst (NotesCalls s (b ∷ input) room) (sym calls)
       (notes-next s b input room (ended s) (roomEnded s room) (step-heard s b room e (refl, refl)) (rest .0 ∙ both .0, rest .1 ∙ both .1))
 
   -- any other byte makes the line longer
-  line-goes : (input room : List ℕ) → Holds s line → (b ≡ lineFeed → ⊥) → Again input (line ++ b ∷ []) → NotesCalls s (b ∷ input) room (callsOf (begun line (onto b (linesOf input))))
+  line-goes : (input room : List ℕ) → Holds s line → (b ≡ lineFeed → ⊥) → Again input (line ++ b ∷ []) → NotesCalls s (b ∷ input) room (heardIn (begun line (onto b (linesOf input))))
   line-goes input room h e again =
-      subst (λ (lines : List (List ℕ)). NotesCalls s (b ∷ input) room (callsOf lines)) (sym (begun-more line b (linesOf input))) (go (decLt (s .count) 32))
+      subst (λ (lines : List (List ℕ)). NotesCalls s (b ∷ input) room (heardIn lines)) (sym (begun-more line b (linesOf input))) (go (decLt (s .count) 32))
     where
-      go : Dec (s .count < 32) → NotesCalls s (b ∷ input) room (callsOf (begun (line ++ b ∷ []) (linesOf input)))
+      go : Dec (s .count < 32) → NotesCalls s (b ∷ input) room (heardIn (begun (line ++ b ∷ []) (linesOf input)))
       go (yes l) = notes-next s b input room _ room (step-kept s b room e l) (again _ room (holds-more h l))
       go (no l) = notes-next s b input room _ room (step-long s b room e (omega arith)) (again _ room (holds-over h (omega arith)))
 
@@ -123,7 +123,7 @@ unfolding linesOf
 as-lines [] line s room h = notes-end s line room h
 as-lines (b ∷ input) line s room h = go (eqb b lineFeed) refl (as-lines input)
   where
-    go : (t : Bool) → eqb b lineFeed ≡ t → ((begins : List ℕ) → Again input begins) → NotesCalls s (b ∷ input) room (callsOf (begun line (cond t ([] ∷ linesOf input) (onto b (linesOf input)))))
+    go : (t : Bool) → eqb b lineFeed ≡ t → ((begins : List ℕ) → Again input begins) → NotesCalls s (b ∷ input) room (heardIn (begun line (cond t ([] ∷ linesOf input) (onto b (linesOf input)))))
     go true e again = line-ended s line b input room h (eqb-true b lineFeed e) (again [])
     go false e again = line-goes s line b input room h (eqb-false b lineFeed e) (again (line ++ b ∷ []))
 

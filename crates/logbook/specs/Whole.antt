@@ -12,10 +12,10 @@ callsBy none = []
 callsBy (some call) = call ∷ []
 
 -- the calls that the station hears in some lines
-unfoldable pub callsOf : List (List ℕ) → List Call
-callsOf [] = []
-callsOf (line ∷ lines) = callsBy (heardAs line) ++ callsOf lines
+unfoldable pub heardIn : List (List ℕ) → List Call
+heardIn [] = []
+heardIn (line ∷ lines) = callsBy (heardAs line) ++ heardIn lines
 
 -- and in a whole input
 abbrev pub callsIn : List ℕ → List Call
-callsIn bytes = callsOf (linesOf bytes)
+callsIn bytes = heardIn (linesOf bytes)
