@@ -1,4 +1,5 @@
 pub mod Limits
+pub mod Floors
 pub mod Reasons
 pub mod Loops
 pub mod Faults

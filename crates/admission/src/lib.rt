@@ -140,15 +140,37 @@ fn bad_period(period: u64) -> bool
     if period < 1 {
         return true;
     }
-    0 < 5040 % period
+    0 < 5040 - floor_of(5040, period) * period
 }
 
-// How many whole periods have passed after so many slots.
+// How many whole periods have passed after so many slots, for a board without a divider: the period is doubled while it still goes in
+// twice and halved again step by step, and each step settles one binary digit.
 fn floor_of(slots: u64, period: u64) -> u64
     requires { ⌜ 0 < period ⌝ }
     ensures { λ r. ⌜ r ≡ slots / period ⌝ }
 {
-    slots / period
+    if slots < period {
+        return 0;
+    }
+    let half = slots >> 1;
+    let mut part = period;
+    let mut steps: u64 = 0;
+    while part <= half {
+        part = part << 1;
+        steps += 1;
+    }
+    let mut quotient = 1;
+    let mut left = slots - part;
+    while 0 < steps {
+        part = part >> 1;
+        quotient = quotient << 1;
+        if part <= left {
+            left -= part;
+            quotient += 1;
+        }
+        steps -= 1;
+    }
+    quotient
 }
 
 // How many cells one declaration can have due by slot t.
