@@ -143,8 +143,7 @@ fn bad_period(period: u64) -> bool
     0 < 5040 - floor_of(5040, period) * period
 }
 
-// How many whole periods have passed after so many slots, for a board without a divider: the period is doubled while it still goes in
-// twice and halved again step by step, and each step settles one binary digit.
+// How many whole periods have passed after so many slots, by doubling and halving: the board has no divider.
 fn floor_of(slots: u64, period: u64) -> u64
     requires { ⌜ 0 < period ⌝ }
     ensures { λ r. ⌜ r ≡ slots / period ⌝ }
