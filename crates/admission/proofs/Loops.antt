@@ -2,7 +2,7 @@
 use mathlib.Core.Path.{_≡_, refl, sym, _∙_}
 use mathlib.Core.Bool.{Bool, true, false}
 use mathlib.Core.List.{List, [], _∷_}
-use Prim.Native.Nat.{ℕ, suc, _+_, _-_, _≤_, _<_}
+use Prim.Native.Nat.{ℕ, suc, _+_, _-_, _/_, _≤_, _<_, max}
 use native.Mathlib.Nat.{div-le-self}
 use native.Mathlib.Numerals.{add-one}
 use native.Mathlib.Omega.{arith}
@@ -17,14 +17,15 @@ use Rattle.units.specs.Refusals.{firstOf}
 use Rattle.units.specs.declared.Refusal.the-variants.{BadDeadline, BadBurst, BadPeriod}
 use Rattle.admission.proofs.Table as S
 use Rattle.admission.proofs.Table.Laws as S′
-use Rattle.admission.specs.declared.Declaration.{Declaration}
+use Rattle.link.specs.declared.Declaration.{Declaration}
 use Rattle.admission.specs.declared.Table.{Table}
-use Rattle.admission.specs.declared.Fault.the-variants.{At}
-use Rattle.admission.specs.declared.Verdict.the-variants.{Admitted, FailsAt}
-use Rattle.admission.specs.Limits.{badBurst, badPeriod}
-use Rattle.admission.specs.Tables.{noDeclaration, heldOf}
-use Rattle.admission.specs.Demand.{demandOne, demandOf, failsFrom, Lawful}
-use Rattle.admission.specs.Verdicts.{firstBad}
+use Rattle.link.specs.declared.Verdict.the-variants.{Admitted, FailsAt, RefusedAt}
+use Rattle.link.specs.Limits.{badBurst, badPeriod, noDeclaration}
+use Rattle.admission.specs.Tables.{heldOf}
+use Rattle.link.specs.Demand.{demandOne, demandOf, failsFrom}
+use Rattle.link.specs.Rate.{rateOf, greatestOf}
+use Rattle.link.specs.Verdicts.{byNumbers}
+use Rattle.link.proofs.Searched.{passes, fails, ends}
 
 -- a table that is owned has sixteen places
 pub sixteen : (table : Table) (vs : List Val) → Is S.the-row table vs → length (table .items) ≡ 16
@@ -45,46 +46,41 @@ module _ (table : Table) (len : length (table .items) ≡ 16) (few : table .coun
     unfolding demandOf
     demand-next t = rw next
 
-    pub burst-stops : badBurst (getD (table .items) k noDeclaration .burst) ≡ true → firstBad k (drop k (heldOf table)) ≡ At BadBurst k
-    unfolding firstBad firstOf
+    pub rate-next : rateOf (drop k (heldOf table)) ≡ 5040 / getD (table .items) k noDeclaration .period + rateOf (drop (k + 1) (heldOf table))
+    unfolding rateOf
+    rate-next = rw next
+
+    pub greatest-next : greatestOf (drop k (heldOf table)) ≡ max (getD (table .items) k noDeclaration .deadline) (greatestOf (drop (k + 1) (heldOf table)))
+    unfolding greatestOf
+    greatest-next = rw next
+
+    pub burst-stops : badBurst (getD (table .items) k noDeclaration .burst) ≡ true → byNumbers k (drop k (heldOf table)) ≡ RefusedAt BadBurst k
+    unfolding byNumbers firstOf
     burst-stops e = rw (next, e)
 
     module _ (burst : badBurst (getD (table .items) k noDeclaration .burst) ≡ false) where
-      pub period-stops : badPeriod (getD (table .items) k noDeclaration .period) ≡ true → firstBad k (drop k (heldOf table)) ≡ At BadPeriod k
-      unfolding firstBad firstOf
+      pub period-stops : badPeriod (getD (table .items) k noDeclaration .period) ≡ true → byNumbers k (drop k (heldOf table)) ≡ RefusedAt BadPeriod k
+      unfolding byNumbers firstOf
       period-stops e = rw (next, burst, e)
 
       module _ (period : badPeriod (getD (table .items) k noDeclaration .period) ≡ false) where
-        pub deadline-stops : badDeadline (getD (table .items) k noDeclaration .deadline) ≡ true → firstBad k (drop k (heldOf table)) ≡ At BadDeadline k
-        unfolding firstBad firstOf
+        pub deadline-stops : badDeadline (getD (table .items) k noDeclaration .deadline) ≡ true → byNumbers k (drop k (heldOf table)) ≡ RefusedAt BadDeadline k
+        unfolding byNumbers firstOf
         deadline-stops e = rw (next, burst, period, e)
 
-        pub good-next : badDeadline (getD (table .items) k noDeclaration .deadline) ≡ false → firstBad k (drop k (heldOf table)) ≡ firstBad (k + 1) (drop (k + 1) (heldOf table))
-        unfolding firstBad firstOf
+        pub good-next : badDeadline (getD (table .items) k noDeclaration .deadline) ≡ false → byNumbers k (drop k (heldOf table)) ≡ byNumbers (k + 1) (drop (k + 1) (heldOf table))
+        unfolding byNumbers firstOf
         good-next e = rw (next, burst, period, e, add-one)
 
 -- by slot t one declaration can have no more cells due than its burst and t
-pub demand-most : (d : Declaration) (t : ℕ) → Lawful d → demandOne d t ≤ 16 + t
+pub demand-most : (d : Declaration) (t : ℕ) → d .burst ≤ 16 → demandOne d t ≤ 16 + t
 demand-most d t w = go (leb (d .deadline) t) refl
   where
     go : (due : Bool) → leb (d .deadline) t ≡ due → demandOne d t ≤ 16 + t
-    go true e = rw e (omega (arith, w .burst16, div-le-self (t - d .deadline) (d .period)))
-    go false e = rw e (omega (arith, w .burst16))
+    go true e = rw e (omega (arith, w, div-le-self (t - d .deadline) (d .period)))
+    go false e = rw e (omega (arith, w))
 
--- a slot that passes, one that fails, and the end of the slots
-pub passes : (k t : ℕ) (ds : List Declaration) → ltb t (demandOf ds t) ≡ false → failsFrom (suc k) t ds ≡ failsFrom k (suc t) ds
-unfolding failsFrom
-passes k t ds e = rw (e, failsFrom)
-
-pub fails : (k t : ℕ) (ds : List Declaration) → ltb t (demandOf ds t) ≡ true → failsFrom (suc k) t ds ≡ FailsAt t
-unfolding failsFrom
-fails k t ds e = rw (e, failsFrom)
-
-pub ends : (t : ℕ) (ds : List Declaration) → failsFrom 0 t ds ≡ Admitted
-unfolding failsFrom
-ends t ds = refl
-
--- the same of the slots from t to a horizon h
+-- a slot that passes, one that fails, and the end of the slots, of those from t to a horizon h
 module _ (h t : ℕ) (ds : List Declaration) where
   pub slot-passes : t ≤ h → ltb t (demandOf ds t) ≡ false → failsFrom (h + 1 - t) t ds ≡ failsFrom (h + 1 - (t + 1)) (t + 1) ds
   slot-passes l e =

@@ -1,42 +1,21 @@
-// The link test: whether all that a list of flows declares can be sent in time, counted in whole cells.
+// Admission: whether all that a lent list of flows declares can be sent in time. The list is read into a table by value, and the link
+// test is worked on plain numbers.
 ghost use mathlib.Core.Path.{_≡_};
-ghost use Prim.Native.Nat.{_/_, _≤_, _<_};
-ghost use Rattle.admission.specs.Limits.{badPeriod};
-ghost use Rattle.admission.specs.Tables.{freshOf, putOf, gatherOf, heldOf};
-ghost use Rattle.admission.specs.Demand.{Lawful, Ready, demandOne, demandOf, leastFailing};
-ghost use Rattle.admission.specs.Verdicts.{firstBad, decideOf, admitOf};
+ghost use Prim.Native.Nat.{_≤_, max};
+ghost use lib.Dec.{ltb};
+ghost use Rattle.link.specs.Demand.{demandOne, demandOf, leastFailing};
+ghost use Rattle.link.specs.Rate.{rateOf, greatestOf};
+ghost use Rattle.link.specs.Verdicts.{admits, byNumbers, horizonOf, groundsOf, admitOf};
+ghost use Rattle.admission.specs.Tables.{freshOf, putOf, gatherOf, heldOf, Ready, decideOf};
+use link::Declaration;
+use link::Verdict;
 use units::Refusal;
-
-// What a flow declares: burst cells at once and one more in each period, each wanted within deadline slots.
-pub struct Declaration {
-    pub burst: u64,
-    pub period: u64,
-    pub deadline: u64,
-}
-
-// The answer to a list: admitted, the smallest slot count by which too much is due, the refusal of a list that is too long,
-// or the refusal of the first bad declaration with its place, from 0.
-pub enum Verdict {
-    Admitted,
-    FailsAt(u64),
-    Refused(Refusal),
-    RefusedAt(Refusal, usize),
-}
-
-// The refusal of a list's first bad declaration with its place, or nothing where none is bad.
-enum Fault {
-    Nothing,
-    At(Refusal, usize),
-}
 
 // A list of at most sixteen declarations by value; the count 17 stands for a longer list.
 struct Table {
     count: usize,
     items: [Declaration; 16],
 }
-
-// How far the test looks, in slots.
-const HORIZON: u64 = 4096;
 
 impl Table {
     // A table of no declarations.
@@ -65,27 +44,60 @@ impl Table {
         self
     }
 
-    // The refusal of the first bad declaration, with its place; of each the burst is judged first, then the period, then the deadline.
-    fn first_bad(self) -> Fault
+    // The verdict by the numbers alone: the first bad declaration, with its place, for its burst, else its period, else its deadline.
+    fn first_bad(self) -> Verdict
         requires { ⌜ self .count ≤ 16 ⌝ }
-        ensures { λ r. ⌜ r ≡ firstBad 0 (heldOf self) ⌝ }
+        ensures { λ r. ⌜ r ≡ byNumbers 0 (heldOf self) ⌝ }
     {
         let count = self.count;
         let mut k = 0;
         while k < count {
             let declaration = self.items[k];
             if units::outside(declaration.burst, 16) {
-                return Fault::At(Refusal::BadBurst, k);
+                return Verdict::RefusedAt(Refusal::BadBurst, k);
             }
-            if bad_period(declaration.period) {
-                return Fault::At(Refusal::BadPeriod, k);
+            if link::bad_period(declaration.period) {
+                return Verdict::RefusedAt(Refusal::BadPeriod, k);
             }
             if units::bad_deadline(declaration.deadline) {
-                return Fault::At(Refusal::BadDeadline, k);
+                return Verdict::RefusedAt(Refusal::BadDeadline, k);
             }
             k += 1;
         }
-        Fault::Nothing
+        Verdict::Admitted
+    }
+
+    // How many cells the periods of all declarations together bring in every 5,040 slots.
+    fn rate(self) -> u64
+        requires { ⌜ self .count ≤ 16 ⌝ }
+        ensures { λ r. ⌜ r ≡ rateOf (heldOf self) ⌝ }
+    {
+        let count = self.count;
+        let mut sum = 0;
+        let mut k = 0;
+        while k < count {
+            let declaration = self.items[k];
+            sum += link::floor_of(5040, declaration.period);
+            k += 1;
+        }
+        sum
+    }
+
+    // What is held against the list before its demand: its length, then a bad number, then its rate.
+    fn grounds(self) -> Verdict
+        ensures { λ r. ⌜ r ≡ groundsOf (ltb 16 (self .count)) (heldOf self) ⌝ }
+    {
+        if 16 < self.count {
+            return Verdict::Refused(Refusal::ListTooLong);
+        }
+        let verdict = self.first_bad();
+        if !verdict.admits() {
+            return verdict;
+        }
+        if 5040 < self.rate() {
+            return Verdict::Rate;
+        }
+        Verdict::Admitted
     }
 
     // How many cells all declarations together can have due by slot t.
@@ -104,6 +116,38 @@ impl Table {
         sum
     }
 
+    // The greatest deadline, 0 where there is no declaration.
+    fn greatest(self) -> u64
+        requires { ⌜ self .count ≤ 16 ⌝ }
+        ensures { λ r. ⌜ r ≡ greatestOf (heldOf self) ⌝ }
+    {
+        let mut k = self.count;
+        let mut most = 0;
+        while 0 < k {
+            k -= 1;
+            let declaration = self.items[k];
+            most = larger(declaration.deadline, most);
+        }
+        most
+    }
+
+    // Whether no t from 1 to the horizon fails, asked from the last one down. Demand never falls as slots pass: where by t no more than t is
+    // due, every t from that demand on passes too and need not be asked for.
+    fn keeps(self, horizon: u64) -> bool
+        requires { ⌜ Ready self × (horizon ≤ 9135) ⌝ }
+        ensures { λ r. ⌜ r ≡ admits (leastFailing horizon (heldOf self)) ⌝ }
+    {
+        let mut passed = horizon + 1;
+        while 1 < passed {
+            let demand = self.demand(passed - 1);
+            if passed <= demand {
+                return false;
+            }
+            passed = demand;
+        }
+        true
+    }
+
     // The smallest t from 1 to the horizon by which more than t cells can be due.
     fn least_failing(self, horizon: u64) -> Verdict
         requires { ⌜ Ready self × (horizon ≤ 9135) ⌝ }
@@ -119,67 +163,48 @@ impl Table {
         Verdict::Admitted
     }
 
-    // The verdict on the table: too long a list is not judged, and no bad number is reckoned with.
+    // The verdict by the demand alone, tested to the greatest deadline plus 5,039.
+    fn tested(self) -> Verdict
+        requires { ⌜ Ready self × (greatestOf (heldOf self) ≤ 4096) ⌝ }
+        ensures { λ r. ⌜ r ≡ leastFailing (horizonOf (heldOf self)) (heldOf self) ⌝ }
+    {
+        let horizon = self.greatest() + 5039;
+        if self.keeps(horizon) {
+            return Verdict::Admitted;
+        }
+        self.least_failing(horizon)
+    }
+
+    // The verdict on the table: what is held against it before its demand, else what its demand is told.
     fn decide(self) -> Verdict
         ensures { λ r. ⌜ r ≡ decideOf self ⌝ }
     {
-        if 16 < self.count {
-            return Verdict::Refused(Refusal::ListTooLong);
+        let verdict = self.grounds();
+        if !verdict.admits() {
+            return verdict;
         }
-        match self.first_bad() {
-            Fault::Nothing => self.least_failing(HORIZON),
-            Fault::At(refusal, k) => Verdict::RefusedAt(refusal, k),
-        }
+        self.tested()
     }
 }
 
-// Whether no flow can have this period: it is no divisor of 5,040.
-fn bad_period(period: u64) -> bool
-    ensures { λ r. ⌜ r ≡ badPeriod period ⌝ }
+// The larger of two numbers.
+fn larger(m: u64, n: u64) -> u64
+    ensures { λ r. ⌜ r ≡ max m n ⌝ }
 {
-    if period < 1 {
-        return true;
+    if m < n {
+        return n;
     }
-    0 < 5040 - floor_of(5040, period) * period
-}
-
-// How many whole periods have passed after so many slots, by doubling and halving: the board has no divider.
-fn floor_of(slots: u64, period: u64) -> u64
-    requires { ⌜ 0 < period ⌝ }
-    ensures { λ r. ⌜ r ≡ slots / period ⌝ }
-{
-    if slots < period {
-        return 0;
-    }
-    let half = slots >> 1;
-    let mut part = period;
-    let mut steps: u64 = 0;
-    while part <= half {
-        part = part << 1;
-        steps += 1;
-    }
-    let mut quotient = 1;
-    let mut left = slots - part;
-    while 0 < steps {
-        part = part >> 1;
-        quotient = quotient << 1;
-        if part <= left {
-            left -= part;
-            quotient += 1;
-        }
-        steps -= 1;
-    }
-    quotient
+    m
 }
 
 // How many cells one declaration can have due by slot t.
 fn demand_one(declaration: Declaration, t: u64) -> u64
-    requires { ⌜ Lawful declaration × (t ≤ 9135) ⌝ }
+    requires { ⌜ (declaration .burst ≤ 16) × (t ≤ 9135) ⌝ }
     ensures { λ r. ⌜ r ≡ demandOne declaration t ⌝ }
 {
     let deadline = declaration.deadline;
     if deadline <= t {
-        return declaration.burst + floor_of(t - deadline, declaration.period);
+        return declaration.burst + link::floor_of(t - deadline, declaration.period);
     }
     0
 }

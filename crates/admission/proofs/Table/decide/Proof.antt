@@ -1,44 +1,36 @@
--- `admission::Table::decide` meets its contract: by the count, then by the fault.
+-- `admission::Table::decide` meets its contract: by the grounds, and else by the demand.
 use borrow.Author.Needs.{needs}
-use borrow.Author.Tests.{lt-ltb, le-ltb}
-use mathlib.Core.Path.{sym, _∙_}
-use Rattle.admission.specs.Tables.{heldOf}
+use borrow.Author.Tests.{not-true, not-false}
+use mathlib.Core.Path.{_≡_, sym, _∙_}
 use Rattle.admission.proofs.Loops.{sixteen}
-use Rattle.admission.proofs.Faults.{ready, judged-long, judged-bad, judged-good}
+use Rattle.admission.proofs.Settled.{stood, most, ready, tested}
 use Rattle.admission.proofs.Table.decide.Statement.{statement}
 use Rattle.admission.proofs.Table.decide.Tie as tie
 
+grounds-requires : tie.Need-grounds-requires
+grounds-requires c κs = search needs
+
+admits-requires : tie.Need-admits-requires
+admits-requires c κs = search needs
+
 returns : tie.Need-returns
-returns c = rw (lt-ltb 16 (c .before .before .args .self .count) (search needs)) (sym (judged-long (heldOf (c .before .before .args .self))))
+returns c =
+    let g = c .before .before in
+    stood (g .before .args .self) (g .grounds .result) (g .grounds .ensures) (sym (c .before .admits .ensures) ∙ not-true (c .before .admits .result) (c .if1 .taken))
 
-first-bad-requires : tie.Need-first-bad-requires
-first-bad-requires c κs = search needs
-
-enum-told : tie.Need-enum-told
-enum-told c = search needs
-
-least-failing-requires : tie.Need-least-failing-requires
-least-failing-requires c κs =
-    let found = c .before .before in
-    let s = found .before .before .before in
-    (ready (s .args .self) (sixteen (s .args .self) _ (s .good .0)) (found .before .if1 .left) (sym (found .first-bad .ensures) ∙ c .enum-told .given .1), search needs)
-
-enum-known-refusal : tie.Need-enum-known-refusal
-enum-known-refusal c = search needs
+tested-requires : tie.Need-tested-requires
+tested-requires c κs =
+    let g = c .before .before in
+    let s = g .before in
+    let none = sym (c .before .admits .ensures) ∙ not-false (c .before .admits .result) (c .if1 .left) in
+    (ready (s .args .self) (g .grounds .result) (g .grounds .ensures) none (sixteen (s .args .self) _ (s .good .0)), most (s .args .self) (g .grounds .result) (g .grounds .ensures) none)
 
 returns-2 : tie.Need-returns-2
 returns-2 c =
-    let found = c .before .before .before in
-    let self = found .before .before .before .args .self in
-    let good = sym (found .first-bad .ensures) ∙ c .before .enum-told .given .1 in
-    rw (le-ltb _ _ (found .before .if1 .left)) (c .least-failing .ensures ∙ sym (judged-good (heldOf self) good))
-
-returns-3 : tie.Need-returns-3
-returns-3 c =
-    let found = c .before .before .before in
-    let self = found .before .before .before .args .self in
-    let bad = sym (found .first-bad .ensures) ∙ c .before .refusal .given .1 in
-    rw (le-ltb _ _ (found .before .if1 .left)) (sym (judged-bad (heldOf self) _ _ bad))
+    let e = c .before in
+    let g = e .before .before in
+    let none = sym (e .before .admits .ensures) ∙ not-false (e .before .admits .result) (e .if1 .left) in
+    c .tested .ensures ∙ tested (g .before .args .self) (g .grounds .result) (g .grounds .ensures) none
 
 pub decide-spec : {M : Type 1} → statement M
-decide-spec = tie.close (tie.spec returns first-bad-requires enum-told least-failing-requires enum-known-refusal returns-2 returns-3)
+decide-spec = tie.close (tie.spec grounds-requires admits-requires returns tested-requires returns-2)

@@ -1,15 +1,15 @@
--- `admission::floor_of` meets its contract. While the part grows: it is the period doubled as often as steps were counted, goes into the slots,
+-- `link::floor_of` meets its contract. A period of 0 has no quotient, and 0 is told. While the part grows: it is the period doubled as often as steps were counted, goes into the slots,
 -- is more than nothing, and is no fewer than the steps, so that their count fits. While it is halved again: the slots are so many parts and
 -- what is left, less than a part (`Split`).
 use borrow.Author.Needs.{needs}
 use mathlib.Core.Logic.{⊎-elim}
-use mathlib.Core.Path.{_≡_, sym}
-use Prim.Native.Nat.{_+_, _-_, _≤_, _<_}
-use native.Mathlib.Nat.{div-eq-of-lt}
+use mathlib.Core.Path.{_≡_, sym, _∙_, ap}
+use Prim.Native.Nat.{ℕ, _+_, _-_, _/_, _≤_, _<_}
+use native.Mathlib.Nat.{div-zero, div-eq-of-lt}
 use native.Mathlib.Omega.{arith}
-use Rattle.admission.proofs.Floors.{Split, twiceOver, doubled, none-doubled, once-more, shift-fits, goes-in, goes-not, settled}
-use Rattle.admission.proofs.floor_of.Statement.{statement}
-use Rattle.admission.proofs.floor_of.Tie as tie
+use Rattle.link.proofs.Floors.{Split, twiceOver, doubled, none-doubled, once-more, shift-fits, goes-in, goes-not, settled}
+use Rattle.link.proofs.floor_of.Statement.{statement}
+use Rattle.link.proofs.floor_of.Tie as tie
 
 abbrev Inv-loop : tie.InvT-loop
 Inv-loop slots period half part₀ steps₀ part steps = (part ≡ twiceOver steps period) × (0 < part) × (part ≤ slots) × (steps ≤ part)
@@ -24,7 +24,10 @@ abbrev μ-loop2 : tie.MeasureT-loop2
 μ-loop2 slots period half part₀ steps₀ quotient₀ left₀ part steps quotient left = steps
 
 returns : tie.Need-returns Inv-loop μ-loop Inv-loop2 μ-loop2
-returns c = sym (div-eq-of-lt (c .if1 .taken))
+returns c = let z : c .before .args .period ≡ 0 = omega (arith, c .if1 .taken) in sym (ap (λ (p : ℕ). c .before .args .slots / p) z ∙ div-zero (c .before .args .slots))
+
+returns-2 : tie.Need-returns-2 Inv-loop μ-loop Inv-loop2 μ-loop2
+returns-2 c = sym (div-eq-of-lt (c .if2 .taken))
 
 loop-holds : tie.Need-loop-holds Inv-loop μ-loop Inv-loop2 μ-loop2
 loop-holds c = (none-doubled _, search needs, search needs, omega arith)
@@ -63,10 +66,10 @@ loop2-again c =
     ⊎-elim
     (λ w. rw (w .1, w .2) (goes-in (i .inv) more _ d (omega (arith, w .0 .taken))))
     (λ w. rw (w .1, w .2) (goes-not (i .inv) more _ d (omega (arith, w .0 .left))))
-    (c .if2 .came)
+    (c .if3 .came)
 
-returns-2 : tie.Need-returns-2 Inv-loop μ-loop Inv-loop2 μ-loop2
-returns-2 c = settled (c .before .loop2 .inv) (omega arith)
+returns-3 : tie.Need-returns-3 Inv-loop μ-loop Inv-loop2 μ-loop2
+returns-3 c = settled (c .before .loop2 .inv) (omega arith)
 
 pub floor-of-spec : {M : Type 1} → statement M
 floor-of-spec =
@@ -77,6 +80,7 @@ floor-of-spec =
     Inv-loop2
     μ-loop2
     returns
+    returns-2
     loop-holds
     add-steps
     loop-less
@@ -87,4 +91,4 @@ floor-of-spec =
     sub-steps
     loop2-less
     loop2-again
-    returns-2)
+    returns-3)

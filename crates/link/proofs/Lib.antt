@@ -1,0 +1,9 @@
+pub mod Limits
+pub mod Floors
+pub mod Reasons
+pub mod Numbers
+pub mod Judged
+pub mod Rising
+pub mod Every
+pub mod Searched
+pub mod Published
