@@ -3,7 +3,7 @@ use mathlib.Core.Path.{refl}
 use native.Mathlib.Omega.{arith}
 use Rattle.units.specs.Refusals.{firstOf}
 use Rattle.places.specs.Places.{count, firstFree}
-use Rattle.admission.specs.Verdicts.{firstBad}
+use Rattle.link.specs.Verdicts.{byNumbers}
 use Rattle.urgent.specs.Calls.{openOf as openUrgentOf}
 use Rattle.fair.specs.Calls.{openOf, offerOf}
 use Rattle.station.specs.Calls.{callOf}
@@ -17,7 +17,7 @@ use Rattle.cases.specs.BadNumbers.{BadNumbers}
 use Rattle.cases.proofs.Worked.{teen}
 
 pub bad-numbers : BadNumbers
-unfolding toldBy bytesOf linesOf answersOf readOn callOf openUrgentOf openOf offerOf firstOf firstBad count firstFree
+unfolding toldBy bytesOf linesOf answersOf readOn callOf openUrgentOf openOf offerOf firstOf byNumbers count firstFree
 bad-numbers =
     record {
       deadlines = refl;

@@ -7,11 +7,12 @@ use Rattle.urgent.specs.Calls.{turnOf}
 use Rattle.urgent.specs.Calls.{openOf as openUrgentOf}
 use Rattle.urgent.specs.Calls.{offerOf as offerCellOf}
 use Rattle.fair.specs.Calls.{openOf, offerOf, beginOf, endOf}
-use Rattle.admission.specs.Demand.{demandOf, failsFrom}
-use Rattle.admission.specs.Verdicts.{firstBad}
+use Rattle.link.specs.Demand.{demandOf, failsFrom}
+use Rattle.link.specs.Rate.{rateOf, greatestOf}
+use Rattle.link.specs.Verdicts.{byNumbers}
 use Rattle.station.specs.Calls.{callOf}
 use Rattle.cases.specs.Table.{toldBy, Cases}
 
 pub cases : Cases
-unfolding toldBy callOf openUrgentOf offerCellOf turnOf openOf offerOf beginOf endOf firstOf count firstFree comesBefore better least failsFrom demandOf firstBad
+unfolding toldBy callOf openUrgentOf offerCellOf turnOf openOf offerOf beginOf endOf firstOf count firstFree comesBefore better least failsFrom demandOf rateOf greatestOf byNumbers
 cases = refl

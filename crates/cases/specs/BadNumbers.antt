@@ -4,9 +4,9 @@ use mathlib.Core.List.{List, [], _∷_, _++_, map}
 use Prim.Native.Nat.{ℕ}
 use lib.ListN.{replicate}
 use Rattle.units.specs.Answers.{Told, values}
-use Rattle.admission.specs.declared.Declaration.{Declaration}
-use Rattle.admission.specs.Verdicts.{admitOf}
-use Rattle.admission.specs.Answers.{told as verdictTold}
+use Rattle.link.specs.declared.Declaration.{Declaration}
+use Rattle.link.specs.Verdicts.{admitOf}
+use Rattle.link.specs.Answers.{told as verdictTold}
 use Rattle.station.specs.declared.Call.the-variants.{OpenUrgent, OpenFair, OfferPacket}
 use Rattle.station.specs.Calls.{freshStation}
 use Rattle.session.specs.Whole.{sessionOf}

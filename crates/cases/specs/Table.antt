@@ -5,9 +5,9 @@ use Prim.Native.Nat.{ℕ, _*_}
 use Rattle.units.specs.Answers.{Told, values}
 use Rattle.units.specs.Charges.{chargeOf}
 use Rattle.units.specs.Radio.{slotsPassed}
-use Rattle.admission.specs.Verdicts.{admitOf}
-use Rattle.admission.specs.Answers.{told as verdictTold}
-use Rattle.admission.specs.declared.Declaration.{Declaration}
+use Rattle.link.specs.Verdicts.{admitOf}
+use Rattle.link.specs.Answers.{Said, saidOf, admitted, fails, rate}
+use Rattle.link.specs.declared.Declaration.{Declaration}
 use Rattle.station.specs.declared.Station.{Station}
 use Rattle.station.specs.declared.Call.{Call}
 use Rattle.station.specs.declared.Call.the-variants.{OpenUrgent, OpenFair, OfferCell, OfferPacket, OpenTurn, LostTurn, Begin, End}
@@ -18,6 +18,11 @@ use Rattle.station.specs.Answers.{told}
 pub record Case : Type 0 where
   pub answered : List Told
   pub expected : List Told
+
+-- a list, and what it should be told: word, number and values
+pub record Judged : Type 0 where
+  pub list : List Declaration
+  pub said : Said
 
 -- what the replies to calls tell, one after the other
 unfoldable pub toldBy : Station → List Call → List Told
@@ -34,6 +39,15 @@ freshAt n =
 
 abbrev pub declared : ℕ → ℕ → ℕ → Declaration
 declared burst period deadline = record { burst = burst; period = period; deadline = deadline }
+
+abbrev pub admittedSaid : Said
+admittedSaid = record { word = admitted; number = 0; values = [] }
+
+abbrev pub failsSaid : ℕ → Said
+failsSaid t = record { word = fails; number = 0; values = t ∷ [] }
+
+abbrev pub rateSaid : Said
+rateSaid = record { word = rate; number = 0; values = [] }
 
 abbrev pub ok : Told
 ok = values []
@@ -113,19 +127,37 @@ H =
 abbrev pub I : Case
 I = record { answered = values (slotsPassed 65530 4 ∷ slotsPassed 5 4 ∷ []) ∷ []; expected = values (10 ∷ 65535 ∷ []) ∷ [] }
 
-abbrev pub J : Case
-J = record { answered = verdictTold (admitOf (declared 1 2 1 ∷ declared 1 2 2 ∷ [])) ∷ []; expected = ok ∷ [] }
+abbrev pub J : Judged
+J = record { list = declared 1 2 1 ∷ declared 1 2 2 ∷ []; said = admittedSaid }
 
-abbrev pub K : Case
-K = record { answered = verdictTold (admitOf (declared 1 2 1 ∷ declared 1 2 1 ∷ [])) ∷ []; expected = values (1 ∷ []) ∷ [] }
+abbrev pub K : Judged
+K = record { list = declared 1 2 1 ∷ declared 1 2 1 ∷ []; said = failsSaid 1 }
 
-abbrev pub L : Case
-L = record { answered = verdictTold (admitOf (declared 3 2 2 ∷ [])) ∷ []; expected = values (2 ∷ []) ∷ [] }
+abbrev pub L : Judged
+L = record { list = declared 3 2 2 ∷ []; said = failsSaid 2 }
 
--- the table
+-- the table: cases of calls, and cases of lists
 abbrev pub table : List Case
-table = A ∷ B ∷ C ∷ D ∷ E ∷ F ∷ H ∷ I ∷ J ∷ K ∷ L ∷ []
+table = A ∷ B ∷ C ∷ D ∷ E ∷ F ∷ H ∷ I ∷ []
+
+abbrev pub lists : List Judged
+lists = J ∷ K ∷ L ∷ []
+
+-- what a list is told
+abbrev pub judgedSaid : Judged → Said
+judgedSaid c = saidOf (admitOf (c .list))
+
+-- the whole table: the replies to each case's calls, and what each list is told
+pub record Answers : Type 0 where
+  pub replies : List (List Told)
+  pub verdicts : List Said
+
+abbrev pub given : Answers
+given = record { replies = map (λ (c : Case). c .answered) table; verdicts = map judgedSaid lists }
+
+abbrev pub wanted : Answers
+wanted = record { replies = map (λ (c : Case). c .expected) table; verdicts = map (λ (c : Judged). c .said) lists }
 
 -- Each case is answered as the rules say.
 abbrev pub Cases : Type 0
-Cases = map (λ (c : Case). c .answered) table ≡ map (λ (c : Case). c .expected) table
+Cases = given ≡ wanted

@@ -3,7 +3,7 @@ use mathlib.Core.Path.{_≡_, refl, sym, _∙_, ap}
 use mathlib.Core.List.{List, [], _∷_, _++_, append-assoc}
 use mathlib.Core.Option.{Option, none, some}
 use Prim.Native.Nat.{ℕ}
-use Rattle.admission.specs.declared.Declaration.{Declaration}
+use Rattle.link.specs.declared.Declaration.{Declaration}
 use Rattle.text.specs.Decimal.{decimalOf}
 use Rattle.text.specs.Reading.{blank}
 use Rattle.text.specs.Spelled.{bytesOf}

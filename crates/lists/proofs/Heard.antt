@@ -8,7 +8,7 @@ use native.Mathlib.Decide.{decLt}
 use native.Mathlib.Omega.{arith}
 use borrow.Author.Tests.{le-leb, ne-eqb}
 use lib.Dec.{eqb}
-use Rattle.admission.specs.declared.Declaration.{Declaration}
+use Rattle.link.specs.declared.Declaration.{Declaration}
 use Rattle.text.specs.Decimal.{decimalWithin, decimalOf}
 use Rattle.text.specs.Reading.{blank, largest}
 use Rattle.text.proofs.Decimal.{one-digit, more-digits}

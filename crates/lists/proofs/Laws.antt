@@ -13,7 +13,14 @@ list-promises =
       D1 = reads-one-list;
       D1-text = lists-spelled;
       D2 = lines-answered;
-      D2-lines = record { admitted = refl; fails = λ t. refl; refused = λ r. refl; refusedAt = λ r k. refl };
+      D2-lines =
+          record {
+            admitted = record { tells = refl; written = refl };
+            fails = λ t. record { tells = refl; written = refl };
+            rate = record { tells = refl; written = refl };
+            refused = λ r. record { tells = refl; written = refl };
+            refusedAt = λ r k. record { tells = refl; written = refl };
+          };
       D3 = fed-in-pieces;
       D4 = takes-on;
     }

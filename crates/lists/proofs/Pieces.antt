@@ -12,10 +12,10 @@ use borrow.Author.Tests.{eq-eqb, lt-ltb, le-ltb, eqb-true, eqb-false}
 use lib.Dec.{eqb, ltb}
 use lib.ListN.{length, take, set, length-append, length-set}
 use lib.Seq.{take-all, take-suc-set, take-append-le, length-take-le}
-use Rattle.admission.specs.declared.Declaration.{Declaration}
+use Rattle.link.specs.declared.Declaration.{Declaration}
 use Rattle.units.specs.declared.Refusal.the-variants.{NoCommand}
-use Rattle.admission.specs.declared.Verdict.the-variants.{Refused}
-use Rattle.admission.specs.Verdicts.{judgedOf, admitOf}
+use Rattle.link.specs.declared.Verdict.the-variants.{Refused}
+use Rattle.link.specs.Verdicts.{judgedOf, admitOf}
 use Rattle.text.specs.Reading.{blank}
 use Rattle.text.specs.Lines.{lineFeed}
 use Rattle.text.specs.Input.{onto, linesOf, joined}

@@ -9,7 +9,7 @@ use lib.ListN.{length, drop}
 use Rattle.text.specs.Lines.{lineFeed, Printed}
 use Rattle.text.specs.Feeding.{Step, FeedsBy}
 use Rattle.text.proofs.Feeding.{Going, feed-one}
-use Rattle.admission.specs.declared.Verdict.{Verdict}
+use Rattle.link.specs.declared.Verdict.{Verdict}
 use Rattle.lists.specs.declared.Reading.{Reading}
 use Rattle.lists.specs.Printing.{longest, verdictLine}
 use Rattle.lists.specs.Steps.{freshReading, keepingOf, judgedBy, stepOf, finishOf}

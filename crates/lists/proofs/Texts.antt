@@ -8,7 +8,7 @@ use Prim.Native.Nat.{ℕ, zero, suc, _+_, _-_, _≤_}
 use native.Mathlib.Omega.{arith}
 use borrow.Author.Tests.{eqb-true}
 use lib.Dec.{eqb}
-use Rattle.admission.specs.declared.Declaration.{Declaration}
+use Rattle.link.specs.declared.Declaration.{Declaration}
 use Rattle.text.specs.Decimal.{decimalOf}
 use Rattle.text.specs.Reading.{blank, largest, isDigit, grown, goesOn}
 use Rattle.text.proofs.Decimal.{decimal-snoc, decimal-digit}

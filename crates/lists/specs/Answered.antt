@@ -2,8 +2,8 @@
 use mathlib.Core.Path.{_≡_}
 use mathlib.Core.List.{List, [], _∷_, _++_}
 use Prim.Native.Nat.{ℕ}
-use Rattle.admission.specs.declared.Declaration.{Declaration}
-use Rattle.admission.specs.Verdicts.{admitOf}
+use Rattle.link.specs.declared.Declaration.{Declaration}
+use Rattle.link.specs.Verdicts.{admitOf}
 use Rattle.text.specs.Decimal.{decimalOf}
 use Rattle.text.specs.Spelled.{bytesOf, field, spelled}
 use Rattle.lists.specs.Grammar.{listText, Small}

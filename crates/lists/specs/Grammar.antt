@@ -2,7 +2,7 @@
 -- between.
 use mathlib.Core.List.{List, [], _∷_, _++_}
 use Prim.Native.Nat.{ℕ, _≤_}
-use Rattle.admission.specs.declared.Declaration.{Declaration}
+use Rattle.link.specs.declared.Declaration.{Declaration}
 use Rattle.text.specs.Decimal.{decimalOf}
 use Rattle.text.specs.Reading.{blank, largest}
 

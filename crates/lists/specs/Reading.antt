@@ -6,7 +6,7 @@ use mathlib.Core.Option.{Option, none, some}
 use mathlib.Core.Path.{_≡_}
 use Prim.Native.Nat.{ℕ, _+_, _-_, _≤_}
 use lib.Dec.{eqb}
-use Rattle.admission.specs.declared.Declaration.{Declaration}
+use Rattle.link.specs.declared.Declaration.{Declaration}
 use Rattle.text.specs.Reading.{blank, isDigit, grown, goesOn}
 use Rattle.lists.specs.declared.taking.Hand.{Hand}
 use Rattle.lists.specs.Grammar.{listText, Small}

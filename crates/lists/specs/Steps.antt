@@ -5,11 +5,11 @@ use Prim.Native.Nat.{ℕ, _+_, min}
 use lib.Dec.{eqb, ltb}
 use lib.ListN.{take, set, replicate}
 use Rattle.units.specs.declared.Refusal.the-variants.{NoCommand}
-use Rattle.admission.specs.declared.Declaration.{Declaration}
-use Rattle.admission.specs.declared.Verdict.{Verdict}
-use Rattle.admission.specs.declared.Verdict.the-variants.{Refused}
-use Rattle.admission.specs.Tables.{noDeclaration}
-use Rattle.admission.specs.Verdicts.{admitOf}
+use Rattle.link.specs.declared.Declaration.{Declaration}
+use Rattle.link.specs.declared.Verdict.{Verdict}
+use Rattle.link.specs.declared.Verdict.the-variants.{Refused}
+use Rattle.link.specs.Limits.{noDeclaration}
+use Rattle.link.specs.Verdicts.{admitOf}
 use Rattle.text.specs.Reading.{blank}
 use Rattle.text.specs.Lines.{lineFeed}
 use Rattle.text.specs.Feeding.{Step}

@@ -3,10 +3,10 @@ use mathlib.Core.List.{List, [], _∷_, _++_}
 use mathlib.Core.Option.{Option, none, some}
 use Prim.Native.Nat.{ℕ}
 use Rattle.units.specs.declared.Refusal.the-variants.{NoCommand}
-use Rattle.admission.specs.declared.Declaration.{Declaration}
-use Rattle.admission.specs.declared.Verdict.{Verdict}
-use Rattle.admission.specs.declared.Verdict.the-variants.{Refused}
-use Rattle.admission.specs.Verdicts.{admitOf}
+use Rattle.link.specs.declared.Declaration.{Declaration}
+use Rattle.link.specs.declared.Verdict.{Verdict}
+use Rattle.link.specs.declared.Verdict.the-variants.{Refused}
+use Rattle.link.specs.Verdicts.{admitOf}
 use Rattle.text.specs.Input.{linesOf}
 use Rattle.lists.specs.Reading.{readList}
 use Rattle.lists.specs.Printing.{verdictLine}

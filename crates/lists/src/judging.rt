@@ -2,13 +2,13 @@
 ghost use mathlib.Core.Path.{_≡_};
 ghost use Prim.Native.Nat.{_+_, _≤_};
 ghost use lib.ListN.{length, take};
-ghost use Rattle.admission.specs.Verdicts.{admitOf};
+ghost use Rattle.link.specs.Verdicts.{admitOf};
 ghost use Rattle.text.specs.Lines.{Put};
 ghost use Rattle.lists.specs.Steps.{judgedBy};
 ghost use Rattle.lists.specs.Printing.{verdictLine};
 use crate::Reading;
-use admission::Declaration;
-use admission::Verdict;
+use link::Declaration;
+use link::Verdict;
 use units::Refusal;
 
 impl Reading {
@@ -49,6 +49,7 @@ pub(crate) fn print(verdict: Verdict, out: &mut [u8], at: usize) -> usize
     match verdict {
         Verdict::Admitted => text::line(out, at, b"admitted", [0, 0, 0], 0),
         Verdict::FailsAt(t) => text::line(out, at, b"fails", [t, 0, 0], 1),
+        Verdict::Rate => text::line(out, at, b"rate", [0, 0, 0], 0),
         Verdict::Refused(refusal) => text::line(out, at, b"no", [refusal.number(), 0, 0], 1),
         Verdict::RefusedAt(refusal, k) => text::line(
             out,

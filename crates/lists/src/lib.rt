@@ -7,7 +7,7 @@ ghost use Rattle.text.specs.Lines.{Printed};
 ghost use Rattle.text.specs.Feeding.{FeedsBy};
 ghost use Rattle.lists.specs.Printing.{longest};
 ghost use Rattle.lists.specs.Steps.{freshReading, stepOf, finishOf};
-use admission::Declaration;
+use link::Declaration;
 use judging::print;
 use taking::Hand;
 

@@ -3,7 +3,7 @@ ghost use mathlib.Core.Path.{_≡_};
 ghost use Rattle.lists.specs.Reading.{freshHand, endedOf, takesOf, wholeAt};
 ghost use Rattle.lists.specs.Steps.{putOf, filledOf, keepingOf};
 use crate::Reading;
-use admission::Declaration;
+use link::Declaration;
 
 // What is at hand of a line: whether it has a byte, whether it is no list's text, whether a number is begun and its value so far,
 // and how many numbers of its declaration were given before it, with those.

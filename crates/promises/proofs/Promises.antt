@@ -3,7 +3,7 @@ use mathlib.Core.Path.{refl}
 use native.Mathlib.Omega.{arith}
 use Rattle.units.proofs.Charges.{product-rule}
 use Rattle.units.proofs.Refusals.{never-4}
-use Rattle.admission.proofs.Published.{published}
+use Rattle.link.proofs.Published.{published, others-fail}
 use Rattle.station.specs.Calls.{callOf}
 use Rattle.station.proofs.InKind.{answered-in-kind}
 use Rattle.station.proofs.Laws.{refused-first, number-told, grounds-in-order, refused-same}
@@ -63,6 +63,7 @@ promises =
       F4-charges = product-rule;
       F5 = λ calls. fair-run calls .terms;
       A1 = published;
+      A2 = others-fail;
       R1 = λ earlier later e l. (omega arith, omega arith, omega arith);
       P1 = reads-one-text;
       P1-others = others-answered;

@@ -8,7 +8,7 @@ use Rattle.units.specs.Refusals.{Ground, numberOf, firstOf}
 use Rattle.units.specs.declared.Refusal.{Refusal}
 use Rattle.units.specs.Charges.{ProductRule}
 use Rattle.units.specs.Radio.{slotsPassed}
-use Rattle.admission.specs.Published.{Published}
+use Rattle.link.specs.Published.{Published, OthersFail}
 use Rattle.promises_urgent.specs.Promised.{OnTime, acceptedOf, Accounted, Earliest, lastIn, CellsNumbered, Windowed, FewNumbers, OwnPlan, NoneBetter, Explained, TermsStand}
 use Rattle.promises_urgent.specs.Refused.{openingNoted as urgentOpening, closingNoted as urgentClosing, offeringNoted as cellOffering, turnNoted}
 use Rattle.promises_fair.specs.Packets.{virtualTime}
@@ -109,6 +109,8 @@ pub record Promises : Type 0 where
   pub F5 : (calls : List Call) → FairTermsStand (run calls .packets)
   -- A1: admission is the published link test, and a list is refused exactly for its length or its first bad number, told with its place
   pub A1 : Published
+  -- A2: a list within its limits that is not admitted fails at some t, which is given
+  pub A2 : OthersFail
   -- R1: slots passed are below 65,536 and lead from the earlier count to the later; equal counts give 0
   pub R1 :
       (earlier later : ℕ) → earlier < 65536 → later < 65536

@@ -5,10 +5,10 @@ use native.Mathlib.Omega.{arith}
 use borrow.Author.Tests.{not-true, not-false}
 use borrow.Author.Needs.{needs}
 use lib.ListN.{take}
-use Rattle.admission.specs.Verdicts.{admitOf}
+use Rattle.link.specs.Verdicts.{admitOf}
 use Rattle.lists.specs.declared.Reading.{Reading}
 use Rattle.lists.specs.Steps.{keptBy, judgedBy}
-use Rattle.admission.proofs.Published.{published}
+use Rattle.link.proofs.Published.{published}
 use Rattle.lists.proofs.Hands.{chosen, passed-over}
 use Rattle.lists.proofs.Reading.judged.Statement.{statement}
 use Rattle.lists.proofs.Reading.judged.Tie as tie

@@ -50,13 +50,13 @@ use denote.Triple.Table.{entered, cited}
 use denote.Triple.Walked.{says, needs, Stays, stay-none, walkOf, goes-none, Walks, ends-at, walked, walk-meets}
 use denote.Triple.Clauses.{ensured, lasts}
 use denote.Exit.{yes}
-use Rattle.admission.specs.declared.Declaration.{Declaration}
-use Rattle.admission.specs.declared.Verdict.{Verdict}
-use Rattle.admission.specs.Verdicts.{admitOf}
-use Rattle.admission.proofs.Declaration as T
-use Rattle.admission.proofs.Declaration.Laws as T′
-use Rattle.admission.proofs.Verdict as E
-use Rattle.admission.proofs.Verdict.Laws as E′
+use Rattle.link.specs.declared.Declaration.{Declaration}
+use Rattle.link.specs.declared.Verdict.{Verdict}
+use Rattle.link.specs.Verdicts.{admitOf}
+use Rattle.link.proofs.Declaration as T
+use Rattle.link.proofs.Declaration.Laws as T′
+use Rattle.link.proofs.Verdict as E
+use Rattle.link.proofs.Verdict.Laws as E′
 use Rattle.admission.proofs.admit as admit
 use Rattle.admission.proofs.admit.Symbol as admit-def
 use Rattle.admission.proofs.admit.Symbol.{name as #admit}
