@@ -7,8 +7,8 @@ ghost use Rattle.text.specs.Lines.{Printed};
 ghost use Rattle.text.specs.Feeding.{FeedsBy};
 ghost use Rattle.lists.specs.Printing.{longest};
 ghost use Rattle.lists.specs.Steps.{freshReading, stepOf, finishOf};
-use link::Declaration;
 use judging::print;
+use link::Declaration;
 use taking::Hand;
 
 // A line as far as it was read: what is at hand, and its first declarations, count of them. Seventeen are kept: a longer list is

@@ -2,6 +2,7 @@
 use borrow.Author.Needs.{needs}
 use borrow.Author.Tests.{lt-ltb, le-ltb, not-true, not-false}
 use mathlib.Core.Path.{_≡_, sym, _∙_}
+use native.Mathlib.Omega.{arith}
 use Rattle.admission.specs.Tables.{heldOf}
 use Rattle.link.proofs.Judged.{numbers-held, rate-held, nothing-held}
 use Rattle.admission.proofs.Table.grounds.Statement.{statement}
@@ -31,7 +32,7 @@ returns-3 c =
     let f = e .before .before in
     rw (le-ltb _ _ (f .before .if1 .left))
     (rate-held (heldOf (f .before .before .before .args .self)) (f .first-bad .result) (f .first-bad .ensures) (sym (e .before .admits .ensures) ∙ not-false (e .before .admits .result) (e .if2 .left))
-    (rw (c .before .rate .ensures) at (c .if3 .taken)))
+    (omega (arith, c .before .rate .ensures, c .if3 .taken)))
 
 returns-4 : tie.Need-returns-4
 returns-4 c =
@@ -39,7 +40,7 @@ returns-4 c =
     let f = e .before .before in
     rw (le-ltb _ _ (f .before .if1 .left))
     (nothing-held (heldOf (f .before .before .before .args .self)) (f .first-bad .result) (f .first-bad .ensures) (sym (e .before .admits .ensures) ∙ not-false (e .before .admits .result) (e .if2 .left))
-    (rw (c .before .rate .ensures) at (c .if3 .left)))
+    (omega (arith, c .before .rate .ensures, c .if3 .left)))
 
 pub grounds-spec : {M : Type 1} → statement M
 grounds-spec =
