@@ -12,19 +12,17 @@ use lib.Seq.{drop-cons, getD-take, length-take-le}
 use mir.Val.{Val}
 use denote.Laws.{Is}
 use denote.Struct.Laws as LL
-use Rattle.units.specs.Limits.{badDeadline}
-use Rattle.units.specs.Refusals.{firstOf}
-use Rattle.units.specs.declared.Refusal.the-variants.{BadDeadline, BadBurst, BadPeriod}
 use Rattle.admission.proofs.Table as S
 use Rattle.admission.proofs.Table.Laws as S′
 use Rattle.link.specs.declared.Declaration.{Declaration}
 use Rattle.admission.specs.declared.Table.{Table}
-use Rattle.link.specs.declared.Verdict.the-variants.{Admitted, FailsAt, RefusedAt}
-use Rattle.link.specs.Limits.{badBurst, badPeriod, noDeclaration}
+use Rattle.link.specs.declared.Verdict.the-variants.{Admitted, FailsAt}
+use Rattle.link.specs.Limits.{noDeclaration}
 use Rattle.admission.specs.Tables.{heldOf}
 use Rattle.link.specs.Demand.{demandOne, demandOf, failsFrom}
 use Rattle.link.specs.Rate.{rateOf, greatestOf}
-use Rattle.link.specs.Verdicts.{byNumbers}
+use Rattle.link.specs.Verdicts.{admits, orElse, byDeclaration, byNumbers}
+use Rattle.link.proofs.Judged.{held, passed}
 use Rattle.link.proofs.Searched.{passes, fails, ends}
 
 -- a table that is owned has sixteen places
@@ -54,23 +52,17 @@ module _ (table : Table) (len : length (table .items) ≡ 16) (few : table .coun
     unfolding greatestOf
     greatest-next = rw next
 
-    pub burst-stops : badBurst (getD (table .items) k noDeclaration .burst) ≡ true → byNumbers k (drop k (heldOf table)) ≡ RefusedAt BadBurst k
-    unfolding byNumbers firstOf
-    burst-stops e = rw (next, e)
+    numbers-next : byNumbers k (drop k (heldOf table)) ≡ orElse (byDeclaration k (getD (table .items) k noDeclaration)) (byNumbers (k + 1) (drop (k + 1) (heldOf table)))
+    unfolding byNumbers
+    numbers-next = rw (next, add-one)
 
-    module _ (burst : badBurst (getD (table .items) k noDeclaration .burst) ≡ false) where
-      pub period-stops : badPeriod (getD (table .items) k noDeclaration .period) ≡ true → byNumbers k (drop k (heldOf table)) ≡ RefusedAt BadPeriod k
-      unfolding byNumbers firstOf
-      period-stops e = rw (next, burst, e)
+    pub bad-stops : admits (byDeclaration k (getD (table .items) k noDeclaration)) ≡ false
+        → byNumbers k (drop k (heldOf table)) ≡ byDeclaration k (getD (table .items) k noDeclaration)
+    bad-stops e = numbers-next ∙ held (byDeclaration k (getD (table .items) k noDeclaration)) _ e
 
-      module _ (period : badPeriod (getD (table .items) k noDeclaration .period) ≡ false) where
-        pub deadline-stops : badDeadline (getD (table .items) k noDeclaration .deadline) ≡ true → byNumbers k (drop k (heldOf table)) ≡ RefusedAt BadDeadline k
-        unfolding byNumbers firstOf
-        deadline-stops e = rw (next, burst, period, e)
-
-        pub good-next : badDeadline (getD (table .items) k noDeclaration .deadline) ≡ false → byNumbers k (drop k (heldOf table)) ≡ byNumbers (k + 1) (drop (k + 1) (heldOf table))
-        unfolding byNumbers firstOf
-        good-next e = rw (next, burst, period, e, add-one)
+    pub good-next : admits (byDeclaration k (getD (table .items) k noDeclaration)) ≡ true
+        → byNumbers k (drop k (heldOf table)) ≡ byNumbers (k + 1) (drop (k + 1) (heldOf table))
+    good-next e = numbers-next ∙ passed (byDeclaration k (getD (table .items) k noDeclaration)) _ e
 
 -- by slot t one declaration can have no more cells due than its burst and t
 pub demand-most : (d : Declaration) (t : ℕ) → d .burst ≤ 16 → demandOne d t ≤ 16 + t

@@ -44,7 +44,7 @@ impl Table {
         self
     }
 
-    // The verdict by the numbers alone: the first bad declaration, with its place, for its burst, else its period, else its deadline.
+    // The verdict by the numbers alone: the first bad declaration is told, with its place.
     fn first_bad(self) -> Verdict
         requires { ⌜ self .count ≤ 16 ⌝ }
         ensures { λ r. ⌜ r ≡ byNumbers 0 (heldOf self) ⌝ }
@@ -53,14 +53,9 @@ impl Table {
         let mut k = 0;
         while k < count {
             let declaration = self.items[k];
-            if units::outside(declaration.burst, 16) {
-                return Verdict::RefusedAt(Refusal::BadBurst, k);
-            }
-            if link::bad_period(declaration.period) {
-                return Verdict::RefusedAt(Refusal::BadPeriod, k);
-            }
-            if units::bad_deadline(declaration.deadline) {
-                return Verdict::RefusedAt(Refusal::BadDeadline, k);
+            let verdict = declaration.judged(k);
+            if !verdict.admits() {
+                return verdict;
             }
             k += 1;
         }

@@ -12,7 +12,7 @@ use Rattle.link.specs.declared.Declaration.{Declaration}
 use Rattle.link.specs.declared.Verdict.{Verdict}
 use Rattle.link.specs.declared.Verdict.the-variants.{Admitted, RefusedAt}
 use Rattle.link.specs.Limits.{noDeclaration}
-use Rattle.link.specs.Verdicts.{declarationGrounds, refusedAt, byNumbers}
+use Rattle.link.specs.Verdicts.{orElse, declarationGrounds, refusedAt, byNumbers}
 use Rattle.link.specs.Published.{Within}
 use Rattle.link.proofs.Reasons.{Reason, good, reason, good-taken}
 
@@ -41,7 +41,7 @@ pub data Found (j : ℕ) (ds : List Declaration) : Verdict → Type 0 where
       → Reason (getD ds k noDeclaration) (some refusal)
       → Found j ds (RefusedAt refusal place)
 
-found-cons : (j : ℕ) (d : Declaration) (ds : List Declaration) (o : Option Refusal) → Reason d o → (v : Verdict) → Found (suc j) ds v → Found j (d ∷ ds) (refusedAt j o v)
+found-cons : (j : ℕ) (d : Declaration) (ds : List Declaration) (o : Option Refusal) → Reason d o → (v : Verdict) → Found (suc j) ds v → Found j (d ∷ ds) (orElse (refusedAt j o) v)
 found-cons j d ds none (good w) _ (nothing ws) = nothing (good-cons d ds (length ds) w ws)
 found-cons j d ds none (good w) _ (one refusal k place e l ws x) =
     one refusal (suc k) place (omega arith) (omega arith) (good-cons d ds k w ws) x

@@ -35,15 +35,19 @@ byLength long = cond long (Refused ListTooLong) Admitted
 abbrev pub declarationGrounds : Declaration → List Ground
 declarationGrounds d = (BadBurst, badBurst (d .burst)) ∷ (BadPeriod, badPeriod (d .period)) ∷ (BadDeadline, badDeadline (d .deadline)) ∷ []
 
--- by what the declaration in place k is refused for, if anything, else by those after it
-abbrev pub refusedAt : ℕ → Option Refusal → Verdict → Verdict
-refusedAt k none later = later
-refusedAt k (some refusal) later = RefusedAt refusal k
+-- by what the declaration in place k is refused for, if anything
+abbrev pub refusedAt : ℕ → Option Refusal → Verdict
+refusedAt k none = Admitted
+refusedAt k (some refusal) = RefusedAt refusal k
+
+-- by the numbers of the declaration in place k alone
+abbrev pub byDeclaration : ℕ → Declaration → Verdict
+byDeclaration k d = refusedAt k (firstOf (declarationGrounds d))
 
 -- by the numbers alone, of declarations that stand in the places from k on: the first bad declaration is told, with its place
 unfoldable pub byNumbers : ℕ → List Declaration → Verdict
 byNumbers k [] = Admitted
-byNumbers k (d ∷ ds) = refusedAt k (firstOf (declarationGrounds d)) (byNumbers (suc k) ds)
+byNumbers k (d ∷ ds) = orElse (byDeclaration k d) (byNumbers (suc k) ds)
 
 -- by the rate alone: no list of more than 5,040 cells in every 5,040 slots is kept up with
 abbrev pub byRate : List Declaration → Verdict

@@ -2,7 +2,7 @@
 ghost use mathlib.Core.Path.{_≡_};
 ghost use Prim.Native.Nat.{_/_};
 ghost use Rattle.link.specs.Limits.{badPeriod};
-ghost use Rattle.link.specs.Verdicts.{admits};
+ghost use Rattle.link.specs.Verdicts.{admits, byDeclaration};
 use units::Refusal;
 
 // What a flow declares: burst cells at once and one more in each period, each wanted within deadline slots.
@@ -10,6 +10,24 @@ pub struct Declaration {
     pub burst: u64,
     pub period: u64,
     pub deadline: u64,
+}
+
+impl Declaration {
+    // The verdict by the numbers of one declaration, which stands in this place: its burst is judged first, then its period, then its deadline.
+    pub fn judged(self, place: usize) -> Verdict
+        ensures { λ r. ⌜ r ≡ byDeclaration place self ⌝ }
+    {
+        if units::outside(self.burst, 16) {
+            return Verdict::RefusedAt(Refusal::BadBurst, place);
+        }
+        if bad_period(self.period) {
+            return Verdict::RefusedAt(Refusal::BadPeriod, place);
+        }
+        if units::bad_deadline(self.deadline) {
+            return Verdict::RefusedAt(Refusal::BadDeadline, place);
+        }
+        Verdict::Admitted
+    }
 }
 
 // The answer to a list: admitted, the smallest slot count by which too much is due, that it would outrun the link for good whatever
