@@ -10,7 +10,7 @@ answered `no 11`. A last line that no line feed ends counts if it has a byte.
 import re
 import sys
 
-LAST_T = 4096  # the largest deadline, and the last t that is looked at
+ROUND = 5040  # slots: every period divides them
 NUMBER = re.compile(rb"0|[1-9][0-9]{0,9}")
 LARGEST = 4294967295
 
@@ -19,15 +19,16 @@ LARGEST = 4294967295
 def refusal(burst, period, deadline):
     if not 1 <= burst <= 16:
         return 17
-    if period < 1 or 5040 % period != 0:
+    if period < 1 or ROUND % period != 0:
         return 18
-    if not 1 <= deadline <= LAST_T:
+    if not 1 <= deadline <= 4096:
         return 14
     return None
 
 
-# Whether the declared flows can all be served in time: `admitted` or `fails T`; `no 16` if there are too many of them, and
-# `no N K` if declaration K, from 0, is the first that has a bad number, with refusal N.
+# Whether the declared flows can all be served in time, for ever: `admitted`; `rate` if in the long run more cells may come than slots,
+# else `fails T` for the first T by which too many may be due. `no 16` if there are too many flows, and `no N K` if declaration K,
+# from 0, is the first that has a bad number, with refusal N.
 def verdict(declarations) -> str:
     if len(declarations) > 16:
         return "no 16"
@@ -35,14 +36,17 @@ def verdict(declarations) -> str:
         number = refusal(*declaration)
         if number is not None:
             return f"no {number} {place}"
+    if sum(ROUND // period for _, period, _ in declarations) > ROUND:
+        return "rate"
     # B + floor((t - D) / P) is B at t = D and grows by one at D + P, D + 2P, ...
-    growth = [0] * (LAST_T + 1)
+    last = max((deadline for _, _, deadline in declarations), default=0) + ROUND - 1
+    growth = [0] * (last + 1)
     for burst, period, deadline in declarations:
         growth[deadline] += burst
-        for t in range(deadline + period, LAST_T + 1, period):
+        for t in range(deadline + period, last + 1, period):
             growth[t] += 1
     demand = 0
-    for t in range(1, LAST_T + 1):
+    for t in range(1, last + 1):
         demand += growth[t]
         if demand > t:
             return f"fails {t}"

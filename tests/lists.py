@@ -9,8 +9,11 @@ list. Everything here is settled by its arguments: the same seed gives the same 
 import random
 import sys
 
-TOP = 2**64 - 1  # beyond what a line may hold
+import admission
+
 LARGEST = 2**32 - 1
+FULL = 5040  # the rate of one cell in each slot; a declaration's is this over its period
+LAST_T = 4096 + 5039  # no list is asked about a t past it
 DIVISORS = [period for period in range(1, 5041) if 5040 % period == 0]
 BEYOND = [[0, 17, 257, LARGEST], [0, 11, 5041, 10080, 65537, LARGEST], [0, 4097, 65537, LARGEST]]  # bad bursts, periods, deadlines
 
@@ -20,40 +23,119 @@ def any_declaration(rng):
     return rng.randint(1, 16), rng.choice(DIVISORS), rng.randint(1, 4096)
 
 
-# A declaration of light load.
-def light_declaration(rng):
-    return rng.randint(1, 4), rng.choice(DIVISORS[-30:]), rng.randint(40, 4096)
+# The rate of a list.
+def rate(made):
+    return sum(FULL // period for _, period, _ in made)
+
+
+# Periods that have exactly this rate together: about so many, and from seven on no more.
+def periods_of(rng, total, length):
+    periods, widest = [], rng.choice([6, 16, 30])
+    while total > 0:
+        fitting = [period for period in DIVISORS if FULL // period <= total]
+        periods.append(rng.choice(fitting[:widest]) if len(periods) < max(2, length - 5) else fitting[0])
+        total -= FULL // periods[-1]
+    rng.shuffle(periods)
+    return periods
+
+
+# Periods of which any so many fit together.
+def long_periods(length):
+    return [period for period in DIVISORS if period >= length]
+
+
+# A list of any bursts and deadlines.
+def any_list(rng, length):
+    most, periods = rng.choice([64, 4096]), long_periods(length)
+    return [(rng.randint(1, 16), rng.choice(periods), rng.randint(1, most)) for _ in range(length)]
+
+
+# A list of light load.
+def light_list(rng, length):
+    return [(rng.randint(1, 4), rng.choice(DIVISORS[-30:]), rng.randint(40, 4096)) for _ in range(length)]
 
 
 # A list of short deadlines, which are hard to keep together.
 def early_list(rng, length):
-    most = rng.choice([4, 12, 40, 120])
-    periods = [period for period in DIVISORS if period >= length]
+    most, periods = rng.choice([4, 12, 40, 120]), long_periods(length)
     return [(rng.randint(1, 2), rng.choice(periods), rng.randint(1, most)) for _ in range(length)]
 
 
-# A list whose load is about all the slots, so that small things decide.
+# A list whose rate is about all the slots, so that small things decide.
 def tight_list(rng, length):
-    out, load = [], 0.0
+    out = []
     for _ in range(length):
-        fitting = [period for period in DIVISORS if load + 1 / period <= 1.004]
+        fitting = [period for period in DIVISORS if rate(out) + FULL // period <= FULL]
         if not fitting:
             break
         period = rng.choice(fitting[:6])
         burst = rng.randint(1, 3)
-        load += 1 / period
-        out.append((burst, period, burst * min(period, 300) + rng.randint(0, 3)))
+        out.append((burst, period, max(1, burst * min(period, 300) + rng.randint(-3, 2))))
     return out
 
 
-# A list that takes every slot but a few, and then one cell or more with a late deadline.
+# A list that takes every slot but a few, and one cell or more with a late deadline.
 def late_list(rng, length):
-    spare = rng.randint(0, 20)
-    out = [(1, 1, spare + 1)]
-    for _ in range(length - 1):
-        out.append((rng.randint(1, 4), rng.choice([5040, 2520, 1680, 1260, 1008, 840]), rng.randint(spare + 1, 4096)))
+    out = [(rng.randint(1, 4), rng.choice([5040, 2520, 1680, 1260, 1008, 840]), rng.randint(1, 4096)) for _ in range(rng.randint(1, 4))]
+    spare = rng.randint(0, 4)
+    out += [(1, period, min(period + spare, 4096)) for period in periods_of(rng, FULL - rate(out), length - len(out))]
     rng.shuffle(out)
     return out
+
+
+# The least deadline that a burst and a period can have beside what leaves so many slots free by each t. Where the burst leaves n of
+# them, at most n periods may be over since the deadline; where it has no room, the deadline is still to come.
+def least_deadline(free, burst, period):
+    return max(t + 1 - (period * (slots - burst + 1) if slots >= burst else 0) for t, slots in enumerate(free))
+
+
+# A list that is admitted, mostly of all the slots, and whose deadlines are each the least that the declarations before it allow; every
+# other such list begins with a burst that is due late.
+def brim_list(rng, length):
+    first = [(rng.randint(1, 16), rng.choice([5040, 2520, 1680]), rng.choice([4096, rng.randint(500, 4096)]))] * rng.randrange(2)
+    wanted = first + [(rng.choice([1, 1, 1, 2, 3]), period, 1) for period in periods_of(rng, FULL - rate(first), length - len(first))]
+    made, free = [], list(range(LAST_T + 1))
+    for burst, period, soonest in wanted:
+        deadline = max(soonest, least_deadline(free, burst, period))
+        if deadline <= 4096:
+            made.append((burst, period, deadline))
+            free = [slots - (burst + (t - deadline) // period if t >= deadline else 0) for t, slots in enumerate(free)]
+    return made
+
+
+# Whether an answer is a t past the list's greatest deadline.
+def is_past(made, answer):
+    return answer.startswith("fails") and int(answer.split()[1]) > max(deadline for _, _, deadline in made)
+
+
+# A list that first fails past its greatest deadline: an admitted one, its last deadline a slot sooner. Where that does not do it,
+# another is tried, twenty at most.
+def past_list(rng, length):
+    for _ in range(20):
+        *made, (burst, period, deadline) = brim_list(rng, min(length, 16))
+        made.append((burst, period, max(1, deadline - 1)))
+        if is_past(made, admission.verdict(made)):
+            break
+    return made
+
+
+# A list of too high a rate: by far, or by so little that with late deadlines no t fails for long.
+def fast_list(rng, length):
+    if rng.randrange(3) == 0:
+        return [(rng.randint(1, 16), 1, rng.randint(1, 4096))] + [any_declaration(rng) for _ in range(max(1, length - 1))]
+    soonest = rng.choice([1, 1000, 4096])
+    periods = periods_of(rng, FULL + rng.choice([1, 1, rng.randint(2, 100)]), length)
+    return [(rng.randint(1, 3), period, rng.randint(soonest, 4096)) for period in periods]
+
+
+# Of twenty lists two have too high a rate, and two fail past their greatest deadline.
+MAKERS = [any_list, light_list, brim_list] + [early_list] * 5 + [tight_list] * 4 + [late_list] * 4 + [past_list] * 2 + [fast_list] * 2
+
+
+# Random lists of good numbers, none of them too long.
+def good_lists(seed, count):
+    rng = random.Random(seed)
+    return [rng.choice(MAKERS)(rng, rng.randint(0, 16)) for _ in range(count)]
 
 
 # The list with numbers beyond their limits: as often as not one, else two or three of one declaration, or two to six anywhere.
@@ -78,18 +160,7 @@ def random_lists(seed, count):
     rng = random.Random(seed)
     lists = []
     for _ in range(count):
-        kind = rng.randrange(12)
-        length = rng.choice([0, 1, 1, 2, 2, 3, 3, 4, 5, 6, 7, 8, 10, 12, 14, 16, 16, 17])
-        if kind < 1:
-            made = [any_declaration(rng) for _ in range(length)]
-        elif kind < 2:
-            made = [light_declaration(rng) for _ in range(length)]
-        elif kind < 5:
-            made = early_list(rng, length)
-        elif kind < 9:
-            made = tight_list(rng, length)
-        else:
-            made = late_list(rng, length) if length else []
+        made = rng.choice(MAKERS)(rng, rng.choice([0, 1, 1, 2, 2, 3, 3, 4, 5, 6, 7, 8, 10, 12, 14, 16, 16, 17]))
         if made and rng.randrange(8) == 0:
             made = spoilt_list(rng, made)
         lists.append(made)
@@ -134,6 +205,11 @@ def refused_lists():
             (before + [period] + after, f"no 18 {place}"),
             (before + [deadline] + after, f"no 14 {place}"),
         ]
+    too_long = [
+        [late] * 17, [fast] * 17, [(1, 1, 4096)] * 17, [late] * 18, [late] * 40, [fast] * 100, [burst] + [late] * 16, [period] + [late] * 16,
+        [deadline] + [late] * 16, [burst] + [late] * 15 + [deadline], [burst] * 17, [(0, 0, 0)] * 17, [(LARGEST, LARGEST, LARGEST)] * 17,
+        [late] * 17 + [period], [(0, 0, 0)] * 18, [(1, 1, 0)] * 33,
+    ]
     return pairs + [
         ([late, late, deadline, burst], "no 14 2"),
         ([late, late, deadline, period], "no 14 2"),
@@ -153,51 +229,46 @@ def refused_lists():
         ([(0, 0, 0)] * 16, "no 17 0"),
         ([(3, 2, 2), deadline], "no 14 1"),
         ([(1, 2, 1), (1, 2, 1), period], "no 18 2"),
+        ([(1, 1, 1), (1, 1, 1), burst], "no 17 2"),
+        ([(1, 1, 1), (1, 1, 1), period], "no 18 2"),
+        ([(1, 1, 1), (1, 1, 1), deadline], "no 14 2"),
         ([fast] * 15 + [burst], "no 17 15"),
-        ([late] * 17, "no 16"),
-        ([fast] * 17, "no 16"),
-        ([late] * 18, "no 16"),
-        ([late] * 40, "no 16"),
-        ([fast] * 100, "no 16"),
-        ([burst] + [late] * 16, "no 16"),
-        ([period] + [late] * 16, "no 16"),
-        ([deadline] + [late] * 16, "no 16"),
-        ([burst] + [late] * 15 + [deadline], "no 16"),
-        ([burst] * 17, "no 16"),
-        ([(0, 0, 0)] * 17, "no 16"),
-        ([(LARGEST, LARGEST, LARGEST)] * 17, "no 16"),
-        ([late] * 17 + [period], "no 16"),
-        ([(0, 0, 0)] * 18, "no 16"),
-        ([(1, 1, 0)] * 33, "no 16"),
-    ]
+    ] + [(made, "no 16") for made in too_long]
 
 
-# Lists of good numbers, most of them at a limit, each with its answer, settled by hand.
+# Lists of good numbers, most of them at a limit, each with its answer, settled by hand. Bursts of 1 with D = P or more have no more
+# than t/P each by t: such a list is admitted unless its rate is too high.
 def judged_lists():
-    one, late, fast = (1, 5040, 1), (1, 5040, 4096), (16, 1, 1)
-    return [
-        ([], "admitted"),
-        ([one], "admitted"),
-        ([late], "admitted"),
-        ([(16, 5040, 16)], "admitted"),
-        ([(16, 5040, 15)], "fails 15"),
-        ([(16, 5040, 4096)] * 16, "admitted"),
-        ([(16, 1, 4096)] * 16, "admitted"),
-        ([late] * 16, "admitted"),
-        ([fast], "fails 1"),
-        ([fast] * 16, "fails 1"),
-        ([(1, 16, 16)] * 16, "admitted"),
-        ([(1, 15, 16)] * 16, "fails 31"),
-        ([(1, 2, 1), (1, 2, 2)], "admitted"),
-        ([(1, 2, 1), (1, 2, 1)], "fails 1"),
-        ([(3, 2, 2)], "fails 2"),
-        ([(1, 1, 1)], "admitted"),
-        ([(1, 1, 1), late], "fails 4096"),
-        ([(1, 1, 2), late], "admitted"),
-        ([(1, 1, 2), late, late], "fails 4096"),
-        ([(1, 1, 2), one], "admitted"),
-        ([(1, 1, 2), one, (1, 5040, 4095)], "fails 4095"),
+    one, late, fast, whole = (1, 5040, 1), (1, 5040, 4096), (16, 1, 1), (1, 1, 1)
+    client = [(1, 2, 1000), (1, 3, 1000), (1, 6, 1000), (1, 5040, 1000)]
+    # Rate 5,039: every t leaves a slot free at least; 4,320 leaves one, and 4,096 two.
+    near = [(1, 2, 2), (1, 3, 3), (1, 7, 7), (1, 45, 45), (1, 720, 720)]
+    steps = [(1, 16, deadline) for deadline in range(1, 17)]  # demand by t is t
+    admitted = [
+        [], [one], [late], [late] * 16, [(16, 5040, 16)], [(16, 5040, 4096)] * 16, [whole], [(2, 1, 2)], [(16, 1, 4096)], client[:3],
+        [(1, 15, 16)] * 15, [(1, 16, 16)] * 16, [(1, 16, 16)] * 15 + [(1, 16, 4096)], steps, steps[::-1], [(1, 2, 1), (1, 2, 2)],
+        [(1, 2, 1), (1, 3, 2), (1, 6, 6)], near, near + [one], near + [late],
     ]
+    # Above 5,040, whether no t up to 9,135 fails or the first does.
+    too_fast = [
+        client, client[::-1], [whole, whole], [whole, one], [whole, late], [(1, 1, 2), one], [(1, 1, 2), late], [(1, 1, 2), late, late],
+        [(1, 1, 2), one, (1, 5040, 4095)], [(1, 1, 4096)] * 2, [late] * 15 + [(1, 1, 4096)], [fast] * 16, [(16, 1, 4096)] * 16,
+        [(1, 15, 16)] * 16, [(1, 16, 16)] * 15 + [(1, 15, 16)], near + [one, one], near + [late, late],
+    ]
+    failing = [
+        (1, [fast]), (1, [(2, 1, 1)]), (1, [(1, 2, 1), (1, 2, 1)]), (2, [(3, 2, 2)]), (15, [(16, 5040, 15)]), (15, [(16, 1, 15)]),
+        (15, steps[:15] + [(1, 16, 15)]), (2, near + [(2, 5040, 2)]), (4096, near + [(3, 5040, 4096)]), (4320, near + [(2, 5040, 4096)]),
+        # 3 + 2 + 1 are 6, past the greatest deadline; 2048 + 1365 + 586 + 92 + 6 + 1 are 4,098.
+        (5, [(1, 2, 1), (1, 3, 2), (1, 6, 4)]),
+        (4097, [(1, 2, 3), (1, 3, 5), (1, 7, 2), (1, 45, 2), (1, 720, 497), late]),
+        # A round after 7 all but the last rise again together: 7 + 4,200 and 2 + 839 are 5,048.
+        (5047, [(1, 4, 7), (1, 5, 7), (1, 5, 7), (1, 7, 7), (1, 30, 7), (1, 144, 7), (1, 5040, 7), (2, 6, 9)]),
+        # 1323 + 1766 + 1324 + 588 + 265 + 16 + 9 + 6 are 5,297.
+        (5296, [(1, 4, 7), (1, 3, 1), (1, 4, 4), (1, 9, 11), (1, 20, 16), (1, 315, 541), (3, 720, 815), (1, 1008, 246)]),
+        # The last t that any list can first fail at: 3044 + 1827 + 1305 + 1015 + 571 + 571 + 457 + 305 + 33 + 5 + 2 are 9,135.
+        (9134, [(1, 3, 5), (1, 5, 4), (1, 7, 6), (1, 9, 8)] + [(1, 16, 14)] * 2 + [(1, 20, 14), (1, 30, 14), (1, 280, 174), (3, 1680, 4096), (1, 5040, 4094)]),
+    ]
+    return [(made, "admitted") for made in admitted] + [(made, "rate") for made in too_fast] + [(made, f"fails {t}") for t, made in failing]
 
 
 # Lines that no list has, and a few that one has, each with its answer, settled by hand.
@@ -214,8 +285,8 @@ def settled_lines():
     ]
     some_lists = [
         (b"", b"admitted"), (b"1 2 1", b"admitted"), (b"0 0 0", b"no 17 0"), (b"1 0 0", b"no 18 0"), (b"1 2 0", b"no 14 0"), (b"1 2 4294967295", b"no 14 0"),
-        (b"4294967295 2 1", b"no 17 0"), (b"1 1000000000 1", b"no 18 0"), (b"1 2 1 1 2 1", b"fails 1"), (b" ".join([late] * 17), b"no 16"),
-        (b" ".join([b"0 0 0"] * 5000), b"no 16"), (b" ".join([late] * 16), b"admitted"),
+        (b"4294967295 2 1", b"no 17 0"), (b"1 1000000000 1", b"no 18 0"), (b"1 2 1 1 2 1", b"fails 1"), (b"1 1 1 1 1 1", b"rate"),
+        (b" ".join([late] * 17), b"no 16"), (b" ".join([b"0 0 0"] * 5000), b"no 16"), (b" ".join([late] * 16), b"admitted"),
     ]
     return [(line, b"no 11") for line in no_lists] + some_lists
 

@@ -17,7 +17,7 @@ use Rattle.link.specs.Rate.{greatestOf}
 use Rattle.link.specs.Verdicts.{admits, horizonOf, groundsOf}
 use Rattle.link.proofs.Numbers.{Good, good-all}
 use Rattle.link.proofs.Judged.{held, passed, grounds-admit}
-use Rattle.link.proofs.Every.{greatest-4096}
+use Rattle.link.proofs.Greatest.{greatest-4096}
 
 module _ (table : Table) (v : Verdict) (is : v ≡ groundsOf (ltb 16 (table .count)) (heldOf table)) where
   pub stood : admits v ≡ false → v ≡ decideOf table

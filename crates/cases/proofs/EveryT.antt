@@ -14,7 +14,9 @@ every-t =
       client-rate = refl;
       client-early = refl;
       client-late = refl;
-      late-rate = refl;
       late-greatest = refl;
       late-demand = refl;
+      latest-rate = refl;
+      latest-greatest = refl;
+      latest-before = refl;
     }

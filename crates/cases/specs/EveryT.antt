@@ -27,6 +27,19 @@ late =
     ∷ declared 1 1008 246
     ∷ []
 
+-- one of rate 5,040 that first fails 5,038 slots past its greatest deadline, 9: no list does so later
+abbrev pub latest : List Declaration
+latest =
+    declared 1 4 7
+    ∷ declared 1 5 7
+    ∷ declared 1 5 7
+    ∷ declared 1 7 7
+    ∷ declared 1 30 7
+    ∷ declared 1 144 7
+    ∷ declared 1 5040 7
+    ∷ declared 2 6 9
+    ∷ []
+
 abbrev pub noSaid : ℕ → List ℕ → Said
 noSaid number values = record { word = no; number = number; values = values }
 
@@ -36,6 +49,7 @@ abbrev pub lists : List Judged
 lists =
     record { list = client; said = rateSaid }
     ∷ record { list = late; said = failsSaid 5296 }
+    ∷ record { list = latest; said = failsSaid 5047 }
     ∷ record { list = []; said = admittedSaid }
     ∷ record { list = declared 1 1 1 ∷ []; said = admittedSaid }
     ∷ record { list = declared 2 1 1 ∷ []; said = failsSaid 1 }
@@ -45,12 +59,15 @@ lists =
     ∷ record { list = replicate 17 (declared 1 1 1); said = noSaid 16 [] }
     ∷ []
 
--- Each list is told what it should be; the client's list is one that a test to 4,096 would admit, and fails at 5,025,880.
+-- Each list is told what it should be. The client's list is one that a test to 4,096 would admit, and fails at 5,025,880; a test that stops at the
+-- greatest deadline, or a slot before the one that fails, would admit the other two.
 pub record EveryT : Type 0 where
   pub told : map judgedSaid lists ≡ map (λ (c : Judged). c .said) lists
   pub client-rate : rateOf client ≡ 5041
   pub client-early : leastFailing 4096 client ≡ Admitted
   pub client-late : demandOf client 5025880 ≡ 5025881
-  pub late-rate : rateOf late ≡ 5040
   pub late-greatest : greatestOf late ≡ 815
   pub late-demand : demandOf late 5296 ≡ 5297
+  pub latest-rate : rateOf latest ≡ 5040
+  pub latest-greatest : greatestOf latest ≡ 9
+  pub latest-before : leastFailing 5046 latest ≡ Admitted

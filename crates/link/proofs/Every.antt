@@ -7,9 +7,7 @@ use native.Mathlib.Nat.{add-mul-div-right, div-eq-of-eq-mul-left, mul-le-mul-lef
 use native.Mathlib.Decide.{decLe}
 use native.Mathlib.Omega.{arith}
 use borrow.Author.Tests.{le-leb, lt-leb}
-use lib.ListN.{length, getD}
 use Rattle.link.specs.declared.Declaration.{Declaration}
-use Rattle.link.specs.Limits.{noDeclaration}
 use Rattle.link.specs.Demand.{demandOne, demandOf}
 use Rattle.link.specs.Rate.{rateOf, greatestOf}
 use Rattle.link.specs.Published.{Within}
@@ -17,7 +15,7 @@ use Rattle.link.proofs.Limits.{positive}
 use Rattle.link.proofs.Numbers.{Good, good-rest}
 
 -- one declaration, 5,040 slots on: its periods have come 5,040/P times more
-one-on : (d : Declaration) (t : ℕ) → Within d → d .deadline ≤ t → demandOne d (t + 5040) ≡ demandOne d t + 5040 / d .period
+pub one-on : (d : Declaration) (t : ℕ) → Within d → d .deadline ≤ t → demandOne d (t + 5040) ≡ demandOne d t + 5040 / d .period
 one-on d t w l =
     let k = w .1 .0 in
     let p = d .period in
@@ -79,26 +77,3 @@ too-fast ds w fast =
     let e : 5041 * greatestOf ds ≡ greatestOf ds + greatestOf ds * 5040 = omega arith in
     rw e
     (omega (arith, demand-far ds (greatestOf ds) (greatestOf ds) w (omega arith), due-some ds w (omega arith), mul-le-mul-left (greatestOf ds) fast))
-
--- the greatest deadline: none is above it, it is one of them, and of a list within its limits it is at most 4,096
-pub greatest-most : (ds : List Declaration) (k : ℕ) → k < length ds → getD ds k noDeclaration .deadline ≤ greatestOf ds
-unfolding greatestOf
-greatest-most [] k l = absurd (not-suc-le-zero l)
-greatest-most (d ∷ ds) zero l = omega arith
-greatest-most (d ∷ ds) (suc k) l = omega (arith, greatest-most ds k (omega arith))
-
-pub greatest-one : (ds : List Declaration) → 0 < length ds → (k : ℕ) × (k < length ds) × (getD ds k noDeclaration .deadline ≡ greatestOf ds)
-unfolding greatestOf
-greatest-one [] l = absurd (not-suc-le-zero l)
-greatest-one (d ∷ []) l = (0, omega arith, omega arith)
-greatest-one (d ∷ e ∷ ds) l = go (decLe (greatestOf (e ∷ ds)) (d .deadline)) (greatest-one (e ∷ ds) (omega arith))
-  where
-    go : Dec (greatestOf (e ∷ ds) ≤ d .deadline) → (k : ℕ) × (k < length (e ∷ ds)) × (getD (e ∷ ds) k noDeclaration .deadline ≡ greatestOf (e ∷ ds))
-        → (k : ℕ) × (k < length (d ∷ e ∷ ds)) × (getD (d ∷ e ∷ ds) k noDeclaration .deadline ≡ max (d .deadline) (greatestOf (e ∷ ds)))
-    go (yes m) later = (0, omega arith, omega arith)
-    go (no m) (k, l, q) = (suc k, omega arith, omega (arith, q))
-
-pub greatest-4096 : (ds : List Declaration) → Good ds → greatestOf ds ≤ 4096
-unfolding greatestOf
-greatest-4096 [] w = omega arith
-greatest-4096 (d ∷ ds) w = omega (arith, greatest-4096 ds (good-rest d ds w), w 0 (omega arith) .2 .1)

@@ -5,5 +5,8 @@ pub mod Numbers
 pub mod Judged
 pub mod Rising
 pub mod Every
+pub mod Greatest
+pub mod Last
 pub mod Searched
+pub mod Why
 pub mod Published

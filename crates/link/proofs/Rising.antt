@@ -2,7 +2,7 @@
 use mathlib.Core.Path.{_≡_, refl}
 use mathlib.Core.Bool.{Bool, true, false}
 use mathlib.Core.List.{List, [], _∷_}
-use Prim.Native.Nat.{ℕ, zero, suc, _+_, _-_, _/_, _≤_}
+use Prim.Native.Nat.{ℕ, zero, suc, _-_, _/_, _≤_}
 use native.Mathlib.Nat.{div-zero, div-mul-le-self, le-div-iff-mul-le}
 use native.Mathlib.Omega.{arith}
 use borrow.Author.Tests.{leb-true, le-leb}
@@ -15,7 +15,7 @@ quotient-rises : (m n p : ℕ) → m ≤ n → m / p ≤ n / p
 quotient-rises m n zero l = omega (arith, div-zero m)
 quotient-rises m n (suc p) l = le-div-iff-mul-le {k = suc p} {x = m / suc p} {y = n} (omega arith) .1 (omega (arith, div-mul-le-self m (suc p)))
 
-one-rises : (d : Declaration) (s t : ℕ) → s ≤ t → demandOne d s ≤ demandOne d t
+pub one-rises : (d : Declaration) (s t : ℕ) → s ≤ t → demandOne d s ≤ demandOne d t
 one-rises d s t l = go (leb (d .deadline) s) refl
   where
     go : (due : Bool) → leb (d .deadline) s ≡ due → demandOne d s ≤ demandOne d t

@@ -82,8 +82,8 @@ pub record Published : Type 0 where
   pub admitted : (ds : List Declaration) → (admitOf ds ≡ Admitted) ↔ (Fits ds × Keeps ds)
   -- t is told exactly when the list is within its limits, its rate is not above, and t is the smallest of all that fails
   pub fails : (ds : List Declaration) (t : ℕ) → (admitOf ds ≡ FailsAt t) ↔ (Fits ds × (rateOf ds ≤ 5040) × Least ds t)
-  -- such a t is never past the greatest deadline plus 5,039
-  pub soon : (ds : List Declaration) (t : ℕ) → admitOf ds ≡ FailsAt t → t ≤ greatestOf ds + 5039
+  -- such a t is below the greatest deadline plus 5,039: the last t that is tested is never the first to fail
+  pub soon : (ds : List Declaration) (t : ℕ) → admitOf ds ≡ FailsAt t → t < greatestOf ds + 5039
   -- the rate is what demand grows by in 5,040 slots, from the greatest deadline on
   pub rate-is : (ds : List Declaration) (t : ℕ) → Fits ds → greatestOf ds ≤ t → demandOf ds (t + 5040) ≡ demandOf ds t + rateOf ds
   -- no deadline is above the greatest, and where there is any it is one of them

@@ -1,7 +1,7 @@
 -- `admission::Table::decide` meets its contract: by the grounds, and else by the demand.
 use borrow.Author.Needs.{needs}
 use borrow.Author.Tests.{not-true, not-false}
-use mathlib.Core.Path.{_≡_, sym, _∙_}
+use mathlib.Core.Path.{sym, _∙_}
 use Rattle.admission.proofs.Loops.{sixteen}
 use Rattle.admission.proofs.Settled.{stood, most, ready, tested}
 use Rattle.admission.proofs.Table.decide.Statement.{statement}

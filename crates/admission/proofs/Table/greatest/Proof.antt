@@ -1,5 +1,5 @@
 -- `admission::Table::greatest` meets its contract. The invariant: the greatest of the declarations looked at, from the k-th on.
-use Prim.Native.Nat.{ℕ, _≤_, _-_, _+_, max}
+use Prim.Native.Nat.{_≤_, _-_, _+_, max}
 use mathlib.Core.Path.{_≡_, refl, sym, _∙_, ap}
 use native.Mathlib.Nat.{le-refl}
 use native.Mathlib.Omega.{arith}

@@ -1,7 +1,7 @@
 -- `admission::Table::grounds` meets its contract: by the count, then by what the numbers are told, then by the rate.
 use borrow.Author.Needs.{needs}
 use borrow.Author.Tests.{lt-ltb, le-ltb, not-true, not-false}
-use mathlib.Core.Path.{_≡_, sym, _∙_}
+use mathlib.Core.Path.{sym, _∙_}
 use native.Mathlib.Omega.{arith}
 use Rattle.admission.specs.Tables.{heldOf}
 use Rattle.link.proofs.Judged.{numbers-held, rate-held, nothing-held}

@@ -1,7 +1,6 @@
 -- `admission::Table::keeps` meets its contract. The invariant: every t from the one last passed to the horizon passes.
 use borrow.Author.Needs.{needs}
 use Prim.Native.Nat.{_≤_, _+_}
-use mathlib.Core.Path.{_≡_}
 use native.Mathlib.Omega.{arith}
 use Rattle.admission.specs.Tables.{heldOf}
 use Rattle.admission.proofs.Kept.{PassedTo, none-passed, passed-on, found-one, found-none}

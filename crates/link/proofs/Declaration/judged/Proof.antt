@@ -1,6 +1,6 @@
 -- `link::Declaration::judged` meets its contract: by the first of its tests that holds.
 use borrow.Author.Needs.{needs}
-use mathlib.Core.Path.{_≡_, sym, _∙_}
+use mathlib.Core.Path.{sym, _∙_}
 use Rattle.units.specs.Refusals.{firstOf}
 use Rattle.link.proofs.Declaration.judged.Statement.{statement}
 use Rattle.link.proofs.Declaration.judged.Tie as tie
