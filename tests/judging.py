@@ -84,7 +84,8 @@ def is_so(made, answer, rng):
         return False
     if word == 'fails':
         return not kept(made, [int(value)]) and kept(made, rises(made, int(value)))
-    soon, later = rises(made, greatest + 5040), rises(made, greatest + 4 * 5040)
+    soon = rises(made, greatest + 5040)
+    later = [t for t in rises(made, greatest + 4 * 5040) if t >= greatest + 5040]
     some = rng.sample(later, min(len(later), 200))
     return word == 'admitted' and kept(made, soon) and kept(made, some) and kept(made, [t + 5040 * rng.randrange(10**12 // 5040) for t in some])
 

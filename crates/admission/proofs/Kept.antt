@@ -21,7 +21,7 @@ none-passed horizon ds s l m = absurd (omega arith)
 
 module _ (passed horizon : ℕ) (ds : List Declaration) (some : 1 < passed) where
   -- where demand by the t before those passed is at most that t, all from that demand on pass
-  pub passed-on : PassedTo passed horizon ds → (demand : ℕ) → demand ≡ demandOf ds (passed - 1) → demand < passed → PassedTo demand horizon ds
+  pub passed-on : PassedTo passed horizon ds → (demand : ℕ) → demand ≡ demandOf ds (passed - 1) → demand ≤ passed - 1 → PassedTo demand horizon ds
   passed-on w demand e l s m n = go (decLe passed s)
     where
       go : Dec (passed ≤ s) → demandOf ds s ≤ s
@@ -29,7 +29,7 @@ module _ (passed horizon : ℕ) (ds : List Declaration) (some : 1 < passed) wher
       go (no earlier) = omega (arith, demand-rises ds s (passed - 1) (omega arith))
 
   -- where it is more, the search finds something
-  pub found-one : passed ≤ horizon + 1 → passed ≤ demandOf ds (passed - 1) → false ≡ admits (leastFailing horizon ds)
+  pub found-one : passed ≤ horizon + 1 → passed - 1 < demandOf ds (passed - 1) → false ≡ admits (leastFailing horizon ds)
   found-one few l = go (searched horizon 1 ds)
     where
       go : Searched horizon 1 ds → false ≡ admits (leastFailing horizon ds)

@@ -95,7 +95,7 @@ impl Table {
         Verdict::Admitted
     }
 
-    // How many cells all declarations together can have due by slot t.
+    // How many cells all declarations together can have due by slot t. No list is tested past 9,135: the longest deadline and 5,039.
     fn demand(self, t: u64) -> u64
         requires { ⌜ Ready self × (t ≤ 9135) ⌝ }
         ensures { λ r. ⌜ r ≡ demandOf (heldOf self) t ⌝ }
@@ -126,16 +126,17 @@ impl Table {
         most
     }
 
-    // Whether no t from 1 to the horizon fails, asked from the last one down. Demand never falls as slots pass: where by t no more than t is
-    // due, every t from that demand on passes too and need not be asked for.
+    // Whether no t from 1 to the horizon fails, asked from the last one down; every t from `passed` on has passed. Demand never falls as
+    // slots pass: where by t no more than t is due, each t from that demand on passes with it, and need not be asked.
     fn keeps(self, horizon: u64) -> bool
         requires { ⌜ Ready self × (horizon ≤ 9135) ⌝ }
         ensures { λ r. ⌜ r ≡ admits (leastFailing horizon (heldOf self)) ⌝ }
     {
         let mut passed = horizon + 1;
         while 1 < passed {
-            let demand = self.demand(passed - 1);
-            if passed <= demand {
+            let t = passed - 1;
+            let demand = self.demand(t);
+            if t < demand {
                 return false;
             }
             passed = demand;
@@ -158,7 +159,7 @@ impl Table {
         Verdict::Admitted
     }
 
-    // The verdict by the demand alone, tested to the greatest deadline plus 5,039.
+    // The verdict by the demand alone, tested to the greatest deadline plus 5,039. The smallest t that fails is looked for only where one does.
     fn tested(self) -> Verdict
         requires { ⌜ Ready self × (greatestOf (heldOf self) ≤ 4096) ⌝ }
         ensures { λ r. ⌜ r ≡ leastFailing (horizonOf (heldOf self)) (heldOf self) ⌝ }

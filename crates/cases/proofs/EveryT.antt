@@ -14,6 +14,7 @@ every-t =
       client-rate = refl;
       client-early = refl;
       client-late = refl;
+      late-rate = refl;
       late-greatest = refl;
       late-demand = refl;
       latest-rate = refl;

@@ -43,8 +43,8 @@ latest =
 abbrev pub noSaid : ℕ → List ℕ → Said
 noSaid number values = record { word = no; number = number; values = values }
 
--- a rate of 5,040 is kept up with, and fails where the burst is too long; one more is not; rate is told though 1 fails; a bad number and a
--- long list go before the rate
+-- a rate of 5,040 is kept up with, and fails where the burst is too long; bursts of 16, one and sixteen of them; one cell more in 5,040 slots is
+-- too many; rate is told though 1 fails; a bad number and a long list go before the rate
 abbrev pub lists : List Judged
 lists =
     record { list = client; said = rateSaid }
@@ -53,6 +53,10 @@ lists =
     ∷ record { list = []; said = admittedSaid }
     ∷ record { list = declared 1 1 1 ∷ []; said = admittedSaid }
     ∷ record { list = declared 2 1 1 ∷ []; said = failsSaid 1 }
+    ∷ record { list = declared 16 5040 15 ∷ []; said = failsSaid 15 }
+    ∷ record { list = declared 16 5040 16 ∷ []; said = admittedSaid }
+    ∷ record { list = replicate 16 (declared 16 5040 256); said = admittedSaid }
+    ∷ record { list = replicate 16 (declared 16 5040 255); said = failsSaid 255 }
     ∷ record { list = declared 1 1 1 ∷ declared 1 5040 4096 ∷ []; said = rateSaid }
     ∷ record { list = declared 1 1 1 ∷ declared 1 1 1 ∷ []; said = rateSaid }
     ∷ record { list = declared 1 1 1 ∷ declared 1 1 1 ∷ declared 1 11 1 ∷ []; said = noSaid 18 (2 ∷ []) }
@@ -66,6 +70,7 @@ pub record EveryT : Type 0 where
   pub client-rate : rateOf client ≡ 5041
   pub client-early : leastFailing 4096 client ≡ Admitted
   pub client-late : demandOf client 5025880 ≡ 5025881
+  pub late-rate : rateOf late ≡ 5040
   pub late-greatest : greatestOf late ≡ 815
   pub late-demand : demandOf late 5296 ≡ 5297
   pub latest-rate : rateOf latest ≡ 5040

@@ -3,6 +3,7 @@ pub mod Floors
 pub mod Reasons
 pub mod Numbers
 pub mod Judged
+pub mod Demand
 pub mod Rising
 pub mod Every
 pub mod Greatest

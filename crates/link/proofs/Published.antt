@@ -21,6 +21,7 @@ use Rattle.link.specs.Verdicts.{declarationGrounds, horizonOf, admitOf}
 use Rattle.link.specs.Answers.{told}
 use Rattle.link.specs.Published.{BurstBad, PeriodBad, DeadlineBad, Fits, FirstBad, Keeps, Least, Published, OthersFail}
 use Rattle.link.proofs.Limits.{divisor}
+use Rattle.link.proofs.Demand.{demand-is}
 use Rattle.link.proofs.Reasons.{burst-refused, period-refused, deadline-refused}
 use Rattle.link.proofs.Numbers.{no-fault, fault-at}
 use Rattle.link.proofs.Judged.{judged-long, judged-bad, judged-fast, judged-slow}
@@ -137,6 +138,7 @@ published = record {
   admitted = λ ds. (λ e. admitted-of (rw e at (why ds)), λ w. then-admitted ds (w .0) (w .1));
   fails = λ ds t. (λ e. fails-of (rw e at (why ds)), λ w. then-fails ds t (w .0) (w .1) (w .2));
   soon = λ ds t e. soon-of (rw e at (why ds));
+  demand-is = demand-is;
   rate-is = λ ds t f l. demand-on ds t (f .within) l;
   greatest-most = greatest-most;
   greatest-one = greatest-one;

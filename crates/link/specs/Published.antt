@@ -64,6 +64,14 @@ pub record SaidAs : Type 0 where
   pub period : (k : ℕ) → saidOf (RefusedAt BadPeriod k) ≡ record { word = no; number = 18; values = k ∷ [] }
   pub deadline : (k : ℕ) → saidOf (RefusedAt BadDeadline k) ≡ record { word = no; number = 14; values = k ∷ [] }
 
+-- what demand is, without a division: the sum over the declarations, of which one has nothing due before its deadline, and from then on its burst
+-- and a cell for each whole period since
+pub record DemandIs : Type 0 where
+  pub none : (t : ℕ) → demandOf [] t ≡ 0
+  pub more : (d : Declaration) (ds : List Declaration) (t : ℕ) → demandOf (d ∷ ds) t ≡ demandOf (d ∷ []) t + demandOf ds t
+  pub early : (d : Declaration) (t : ℕ) → t < d .deadline → demandOf (d ∷ []) t ≡ 0
+  pub due : (d : Declaration) (n s : ℕ) → s < d .period → demandOf (d ∷ []) (d .deadline + (n * d .period + s)) ≡ d .burst + n
+
 -- the published test, statement by statement
 pub record Published : Type 0 where
   -- each verdict tells the rules' word, number and values
@@ -84,6 +92,8 @@ pub record Published : Type 0 where
   pub fails : (ds : List Declaration) (t : ℕ) → (admitOf ds ≡ FailsAt t) ↔ (Fits ds × (rateOf ds ≤ 5040) × Least ds t)
   -- such a t is below the greatest deadline plus 5,039: the last t that is tested is never the first to fail
   pub soon : (ds : List Declaration) (t : ℕ) → admitOf ds ≡ FailsAt t → t < greatestOf ds + 5039
+  -- demand is the rules' demand
+  pub demand-is : DemandIs
   -- the rate is what demand grows by in 5,040 slots, from the greatest deadline on
   pub rate-is : (ds : List Declaration) (t : ℕ) → Fits ds → greatestOf ds ≤ t → demandOf ds (t + 5040) ≡ demandOf ds t + rateOf ds
   -- no deadline is above the greatest, and where there is any it is one of them

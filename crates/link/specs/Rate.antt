@@ -1,4 +1,4 @@
--- How fast a list sends for good, and how far its longest deadline reaches.
+-- How many cells a list brings in the long run, and its greatest deadline.
 use mathlib.Core.List.{List, [], _∷_}
 use Prim.Native.Nat.{ℕ, _+_, _/_, max}
 use Rattle.link.specs.declared.Declaration.{Declaration}

@@ -30,8 +30,8 @@ impl Declaration {
     }
 }
 
-// The answer to a list: admitted, the smallest slot count by which too much is due, that it would outrun the link for good whatever
-// is due early, the refusal of a list that is too long, or the refusal of the first bad declaration with its place, from 0.
+// The answer to a list: admitted, the smallest slot count by which too much is due, that its periods bring more cells than there are
+// slots, the refusal of a list that is too long, or the refusal of the first bad declaration with its place, from 0.
 pub enum Verdict {
     Admitted,
     FailsAt(u64),
@@ -87,7 +87,7 @@ pub fn floor_of(slots: u64, period: u64) -> u64
 }
 
 // Whether no flow can have this period: it is no divisor of 5,040.
-pub fn bad_period(period: u64) -> bool
+fn bad_period(period: u64) -> bool
     ensures { λ r. ⌜ r ≡ badPeriod period ⌝ }
 {
     if period < 1 {

@@ -107,7 +107,7 @@ pub record Promises : Type 0 where
   pub F4-charges : ProductRule
   -- F5: a packet that waits or is in service is of an open flow, and its charge is that of the weight still in force
   pub F5 : (calls : List Call) → FairTermsStand (run calls .packets)
-  -- A1: admission is the published link test, and a list is refused exactly for its length or its first bad number, told with its place
+  -- A1: admission is the published link test over every t; admitted, rate, the smallest t that fails and each refusal are told exactly where the rules say
   pub A1 : Published
   -- A2: a list within its limits that is not admitted fails at some t, which is given
   pub A2 : OthersFail

@@ -19,8 +19,8 @@ add-passed c = search needs
 loop-holds : tie.Need-loop-holds Inv-loop μ-loop
 loop-holds c = (omega arith, none-passed (c .args .horizon) (heldOf (c .args .self)))
 
-sub-demand : tie.Need-sub-demand Inv-loop μ-loop
-sub-demand c = omega arith
+sub-t : tie.Need-sub-t Inv-loop μ-loop
+sub-t c = omega arith
 
 demand-requires : tie.Need-demand-requires Inv-loop μ-loop
 demand-requires c κs = (c .before .before .pre .0, omega arith)
@@ -48,4 +48,4 @@ returns-2 c =
 pub keeps-spec : {M : Type 1} → statement M
 keeps-spec =
     tie.close
-    (tie.spec Inv-loop μ-loop add-passed loop-holds sub-demand demand-requires returns loop-less loop-again returns-2)
+    (tie.spec Inv-loop μ-loop add-passed loop-holds sub-t demand-requires returns loop-less loop-again returns-2)
