@@ -171,7 +171,7 @@ impl Table {
         self.least_failing(horizon)
     }
 
-    // The verdict on the table: what is held against it before its demand, else what its demand is told.
+    // The verdict on the table: what is held against it before its demand, else the verdict by its demand.
     fn decide(self) -> Verdict
         ensures { λ r. ⌜ r ≡ decideOf self ⌝ }
     {

@@ -19,5 +19,4 @@ every-t =
       late-demand = refl;
       latest-rate = refl;
       latest-greatest = refl;
-      latest-before = refl;
     }

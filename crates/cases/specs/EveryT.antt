@@ -43,7 +43,7 @@ latest =
 abbrev pub noSaid : ℕ → List ℕ → Said
 noSaid number values = record { word = no; number = number; values = values }
 
--- a rate of 5,040 is kept up with, and fails where the burst is too long; bursts of 16, one and sixteen of them; one cell more in 5,040 slots is
+-- a rate of 5,040 is kept up with, and fails where the burst is too long; bursts of 16, one or sixteen of them; one cell more in 5,040 slots is
 -- too many; rate is told though 1 fails; a bad number and a long list go before the rate
 abbrev pub lists : List Judged
 lists =
@@ -55,7 +55,6 @@ lists =
     ∷ record { list = declared 2 1 1 ∷ []; said = failsSaid 1 }
     ∷ record { list = declared 16 5040 15 ∷ []; said = failsSaid 15 }
     ∷ record { list = declared 16 5040 16 ∷ []; said = admittedSaid }
-    ∷ record { list = replicate 16 (declared 16 5040 256); said = admittedSaid }
     ∷ record { list = replicate 16 (declared 16 5040 255); said = failsSaid 255 }
     ∷ record { list = declared 1 1 1 ∷ declared 1 5040 4096 ∷ []; said = rateSaid }
     ∷ record { list = declared 1 1 1 ∷ declared 1 1 1 ∷ []; said = rateSaid }
@@ -63,8 +62,8 @@ lists =
     ∷ record { list = replicate 17 (declared 1 1 1); said = noSaid 16 [] }
     ∷ []
 
--- Each list is told what it should be. The client's list is one that a test to 4,096 would admit, and fails at 5,025,880; a test that stops at the
--- greatest deadline, or a slot before the one that fails, would admit the other two.
+-- Each list is told what it should be. The client's list is one that a test to 4,096 would admit, and fails at 5,025,880; the other two are of a
+-- rate that is kept up with, and fail long past their greatest deadlines.
 pub record EveryT : Type 0 where
   pub told : map judgedSaid lists ≡ map (λ (c : Judged). c .said) lists
   pub client-rate : rateOf client ≡ 5041
@@ -75,4 +74,3 @@ pub record EveryT : Type 0 where
   pub late-demand : demandOf late 5296 ≡ 5297
   pub latest-rate : rateOf latest ≡ 5040
   pub latest-greatest : greatestOf latest ≡ 9
-  pub latest-before : leastFailing 5046 latest ≡ Admitted
