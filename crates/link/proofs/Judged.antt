@@ -55,7 +55,7 @@ module _ (ds : List Declaration) (v : Verdict) (is : v ≡ byNumbers 0 ds) where
     pub nothing-held : rateOf ds ≤ 5040 → Admitted ≡ groundsOf false ds
     nothing-held l = let slow : byRate ds ≡ Admitted = rw (le-ltb 5040 (rateOf ds) l) in sym slow ∙ by-rate
 
--- the verdict: too long; a bad declaration; outrun; and else the test's
+-- the verdict: too long; a bad declaration; too high a rate; and else the test's
 pub judged-long : (ds : List Declaration) → judgedOf true ds ≡ Refused ListTooLong
 judged-long ds = refl
 
