@@ -1,11 +1,14 @@
 -- Counting what passes a test: over joined lists, after a store, over a list all alike, and by another test.
 use mathlib.Core.Path.{_≡_, refl, _∙_}
 use mathlib.Core.Bool.{Bool, true, false, not, _&&_}
-use mathlib.Core.List.{List, [], _∷_, _++_}
+use mathlib.Core.List.{List, [], _∷_, _++_, map}
 use Prim.Native.Nat.{ℕ, zero, suc, _+_, _≤_, _<_}
+use native.Mathlib.Decide.{decLt}
 use native.Mathlib.Nat.{not-suc-le-zero}
 use native.Mathlib.Numerals.{add-one}
 use native.Mathlib.Omega.{arith}
+use borrow.Author.Tests.{lt-ltb, le-ltb, eq-eqb}
+use lib.Dec.{ltb, eqb}
 use lib.ListN.{length, getD, set, take}
 use lib.Seq.{take-suc, take-all}
 use Rattle.places.specs.Places.{bit, count}
@@ -21,6 +24,27 @@ and-le false b = omega arith
 pub and-le-right : (a b : Bool) → bit (a && b) ≤ bit b
 and-le-right true b = omega arith
 and-le-right false b = omega arith
+
+-- a test that tells another counts no more than it
+pub bit-le : (a b : Bool) → (a ≡ true → b ≡ true) → bit a ≤ bit b
+bit-le true b f = rw (f refl) (omega arith)
+bit-le false b f = omega arith
+
+-- what two tests cover between them they cover along with a third
+pub and-cover : (a b c : Bool) → bit a ≤ bit b + bit c → (d : Bool) → bit (a && d) ≤ bit (b && d) + bit (c && d)
+and-cover false b c l d = omega arith
+and-cover true true c l d = omega arith
+and-cover true false true l d = omega arith
+and-cover true false false l d = absurd (omega arith)
+
+-- the numbers below n + 1 are those below n, and n
+pub below-suc : (x n : ℕ) → bit (ltb x (suc n)) ≤ bit (ltb x n) + bit (eqb x n)
+below-suc x n = go (decLt x n) (decLt x (suc n))
+  where
+    go : Dec (x < n) → Dec (x < suc n) → bit (ltb x (suc n)) ≤ bit (ltb x n) + bit (eqb x n)
+    go (yes l) m = rw (lt-ltb x n l, lt-ltb x (suc n) (omega arith)) (omega arith)
+    go (no l) (yes m) = rw (eq-eqb x n (omega arith), lt-ltb x (suc n) m) (omega arith)
+    go (no l) (no m) = rw (le-ltb x (suc n) (omega arith)) (omega arith)
 
 -- a test holds together with another, or without it
 pub bit-split : (a b : Bool) → bit a ≡ bit (a && b) + bit (a && not b)
@@ -48,6 +72,12 @@ module _ {A : Type 0} (p q : A → Bool) where
   unfolding count
   count-add r h [] = refl
   count-add r h (x ∷ xs) = omega (arith, h x, count-add r h xs)
+
+-- over a list of things made from others
+pub count-map : {A B : Type 0} (f : A → B) (p : B → Bool) (xs : List A) → count p (map f xs) ≡ count (λ x. p (f x)) xs
+unfolding count
+count-map f p [] = refl
+count-map f p (x ∷ xs) = omega (arith, count-map f p xs)
 
 -- two tests together, each no weaker than another
 pub count-and-le : {A : Type 0} (p q p′ q′ : A → Bool) → ((x : A) → bit (p x) ≤ bit (p′ x)) → ((x : A) → bit (q x) ≤ bit (q′ x))

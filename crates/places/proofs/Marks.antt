@@ -1,12 +1,13 @@
 -- One mark more, for either lane: what the flows' records and the records that are live tell of the marks goes on.
 use mathlib.Core.Path.{_≡_, refl, sym, ap, _∙_}
+use mathlib.Core.Logic.{inl, inr}
 use mathlib.Core.Bool.{Bool, true, false, cond, true≢false, false≢true}
-use mathlib.Core.List.{List, _∷_}
+use mathlib.Core.List.{List, [], _∷_}
 use Prim.Native.Nat.{ℕ, _<_}
 use borrow.Author.Tests.{eqb-true, ne-eqb}
 use lib.Dec.{eqb}
 use lib.ListN.{length, getD, set}
-use Rattle.places.specs.Members.{Each}
+use Rattle.places.specs.Members.{Each, Some}
 use Rattle.places.specs.Marks.{Mark, opens, closes, openIn, inForce}
 use Rattle.places.proofs.Members.{each-map, each-both}
 use Rattle.places.proofs.Stores.{set-cases}
@@ -29,6 +30,25 @@ module _ (P : ℕ → Type 0) (marks : List Mark) (k : (f : ℕ) → openIn mark
       go : (t : Bool) → cond t false (openIn marks f) ≡ true → P (inForce marks f)
       go true o = absurd (false≢true o)
       go false o = k f o
+
+-- the number in force of an open flow is that of one of its openings
+pub force-told : (marks : List Mark) (flow : ℕ) → openIn marks flow ≡ true → Some (λ (m : Mark). m ≡ opens flow (inForce marks flow)) marks
+unfolding openIn inForce
+force-told [] flow o = absurd (false≢true o)
+force-told (opens f number ∷ marks) flow o = go (eqb f flow) refl o (force-told marks flow)
+  where
+    go : (t : Bool) → eqb f flow ≡ t → cond t true (openIn marks flow) ≡ true
+        → (openIn marks flow ≡ true → Some (λ (m : Mark). m ≡ opens flow (inForce marks flow)) marks)
+        → Some (λ (m : Mark). m ≡ opens flow (cond t number (inForce marks flow))) (opens f number ∷ marks)
+    go true e p earlier = inl (ap (λ (x : ℕ). opens x number) (eqb-true f flow e))
+    go false e p earlier = inr (earlier p)
+force-told (closes f ∷ marks) flow o = go (eqb f flow) o (force-told marks flow)
+  where
+    go : (t : Bool) → cond t false (openIn marks flow) ≡ true
+        → (openIn marks flow ≡ true → Some (λ (m : Mark). m ≡ opens flow (inForce marks flow)) marks)
+        → Some (λ (m : Mark). m ≡ opens flow (inForce marks flow)) (closes f ∷ marks)
+    go true p earlier = absurd (false≢true p)
+    go false p earlier = inr (earlier p)
 
 -- the record of a flow has its mark and the number in force, for n flows
 module _ {F : Type 0} (opened : F → Bool) (number : F → ℕ) (shut : F) (n : ℕ) where

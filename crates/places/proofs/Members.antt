@@ -2,11 +2,11 @@
 use mathlib.Core.Path.{_≡_, refl}
 use mathlib.Core.Logic.{inl, inr}
 use mathlib.Core.Bool.{Bool, true, false}
-use mathlib.Core.List.{List, [], _∷_}
+use mathlib.Core.List.{List, [], _∷_, _++_, map}
 use Prim.Native.Nat.{ℕ, zero, suc, _+_, _<_}
 use native.Mathlib.Nat.{not-suc-le-zero}
 use native.Mathlib.Omega.{arith}
-use lib.ListN.{length, getD}
+use lib.ListN.{length, getD, replicate}
 use Rattle.places.specs.Places.{bit, count}
 use Rattle.places.specs.Members.{Each, Some}
 
@@ -20,6 +20,11 @@ module _ {A : Type 0} where
       go : (t : Bool) → p x ≡ t → bit t ≡ 0 → p x ≡ false
       go true e o = absurd (omega arith)
       go false e o = e
+
+  pub none-counted : (p : A → Bool) (xs : List A) → Each (λ x. p x ≡ false) xs → count p xs ≡ 0
+  unfolding count
+  none-counted p [] e = refl
+  none-counted p (x ∷ xs) e = rw (e .0) (omega (arith, none-counted p xs (e .1)))
 
   -- some passes
   pub some-passes : (p : A → Bool) (xs : List A) → 0 < count p xs → Some (λ x. p x ≡ true) xs
@@ -38,6 +43,22 @@ module _ {A : Type 0} where
   pub each-both : (P Q : A → Type 0) (xs : List A) → Each P xs → Each Q xs → Each (λ x. P x × Q x) xs
   each-both P Q [] p q = tt
   each-both P Q (x ∷ xs) p q = ((p .0, q .0), each-both P Q xs (p .1) (q .1))
+
+  pub each-append : (P : A → Type 0) (xs ys : List A) → Each P xs → Each P ys → Each P (xs ++ ys)
+  each-append P [] ys e f = f
+  each-append P (x ∷ xs) ys e f = (e .0, each-append P xs ys (e .1) f)
+
+  pub each-first : (P : A → Type 0) (xs ys : List A) → Each P (xs ++ ys) → Each P xs
+  each-first P [] ys e = tt
+  each-first P (x ∷ xs) ys e = (e .0, each-first P xs ys (e .1))
+
+  pub each-last : (P : A → Type 0) (xs : List A) (y : A) → Each P (xs ++ y ∷ []) → P y
+  each-last P [] y e = e .0
+  each-last P (x ∷ xs) y e = each-last P xs y (e .1)
+
+  pub each-replicate : (P : A → Type 0) (n : ℕ) (x : A) → P x → Each P (replicate n x)
+  each-replicate P zero x p = tt
+  each-replicate P (suc n) x p = (p, each-replicate P n x p)
 
   pub some-map : (P Q : A → Type 0) → ((x : A) → P x → Q x) → (xs : List A) → Some P xs → Some Q xs
   some-map P Q f [] e = absurd e
@@ -61,3 +82,13 @@ module _ {A : Type 0} where
   some-both P Q [] s e = s
   some-both P Q (x ∷ xs) (inl p) e = inl (p, e .0)
   some-both P Q (x ∷ xs) (inr s) e = inr (some-both P Q xs s (e .1))
+
+-- what holds of each thing made from others holds of what it is made from, and the other way
+module _ {A B : Type 0} (f : A → B) (P : B → Type 0) where
+  pub each-mapped : (xs : List A) → Each (λ x. P (f x)) xs → Each P (map f xs)
+  each-mapped [] e = tt
+  each-mapped (x ∷ xs) e = (e .0, each-mapped xs (e .1))
+
+  pub each-made : (xs : List A) → Each P (map f xs) → Each (λ x. P (f x)) xs
+  each-made [] e = tt
+  each-made (x ∷ xs) e = (e .0, each-made xs (e .1))

@@ -11,7 +11,7 @@ use borrow.Author.Tests.{lt-ltb, le-ltb, le-leb, ltb-true, leb-true}
 use lib.Dec.{leb, ltb}
 use lib.ListN.{length, getD}
 use Rattle.places.specs.Places.{bit}
-use Rattle.places.proofs.Count.{bit-le-one}
+use Rattle.places.proofs.Count.{bit-le-one, bit-le}
 use Rattle.promises_urgent.specs.Plans.{Window, noWindow}
 use Rattle.promises_urgent.proofs.Uses.{Use, unused, inSlot, slot-of, not-used, size}
 
@@ -26,11 +26,6 @@ counted t e (w ∷ ws) [] = 0
 counted t e (w ∷ ws) (x ∷ us) = bit (early t x || leb e (w .last)) + counted t e ws us
 
 -- ---- one cell
-bit-le : (a b : Bool) → (a ≡ true → b ≡ true) → bit a ≤ bit b
-bit-le false b f = zero-le
-bit-le true true f = le-refl 1
-bit-le true false f = absurd (false≢true (f refl))
-
 or-cases : (a b : Bool) → (a || b) ≡ true → (a ≡ true) ⊎ (b ≡ true)
 or-cases true b e = inl refl
 or-cases false b e = inr e

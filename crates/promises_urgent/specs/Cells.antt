@@ -1,11 +1,11 @@
 -- What has become of the urgent lane's cells, read off the calls and their answers alone. Each list has the newest first.
 use mathlib.Core.Bool.{Bool, false, not, _&&_, _||_}
 use mathlib.Core.List.{List, [], _∷_, map}
-use Prim.Native.Nat.{ℕ, _+_, _-_}
+use Prim.Native.Nat.{ℕ}
 use lib.Dec.{leb, ltb, eqb}
 use Rattle.places.specs.Marks.{Mark, inForce}
 use Rattle.places.specs.Numbers.{isThis}
-use Rattle.promises_urgent.specs.Plans.{Window}
+use Rattle.promises_urgent.specs.Plans.{Window, windowFrom}
 
 -- an accepted cell: its flow, its number and last slot as answered, the slot number at its acceptance, and the deadline then in force
 pub record Cell : Type 0 where
@@ -70,7 +70,7 @@ isMissed h a = not (wasSent (h .sent) (a .flow) (a .number)) && ltb (a .last) (h
 
 -- the window of an accepted cell, from the slot of its acceptance and the deadline then in force
 abbrev pub windowOf : Cell → Window
-windowOf a = record { first = a .arrival; last = a .arrival + a .deadline - 1 }
+windowOf a = windowFrom (a .arrival) (a .deadline)
 
 abbrev pub windows : Cells → List Window
 windows h = map windowOf (h .accepted)

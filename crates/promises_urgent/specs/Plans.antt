@@ -3,7 +3,7 @@ use mathlib.Core.Path.{_≡_}
 use mathlib.Core.Logic.{_⊎_}
 use mathlib.Core.Bool.{_&&_}
 use mathlib.Core.List.{List, [], _∷_, map}
-use Prim.Native.Nat.{ℕ, _≤_, _<_}
+use Prim.Native.Nat.{ℕ, _+_, _-_, _≤_, _<_}
 use lib.Dec.{leb}
 use lib.ListN.{length, getD}
 use Rattle.places.specs.Members.{Each}
@@ -26,6 +26,10 @@ pub record Window : Type 0 where
 
 abbrev pub noWindow : Window
 noWindow = record { first = 0; last = 0 }
+
+-- the window of a cell: as many slots as its deadline says, from the slot of its arrival on
+abbrev pub windowFrom : ℕ → ℕ → Window
+windowFrom arrival deadline = record { first = arrival; last = arrival + deadline - 1 }
 
 -- what a plan does: the cell, by its index in the list of windows, is sent in the slot
 pub record Sending : Type 0 where

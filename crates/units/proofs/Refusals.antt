@@ -1,6 +1,6 @@
 -- Which number no refusal has; what a call gives for a list of grounds: it goes through where none of them holds, and is refused for the
 -- first that does.
-use mathlib.Core.Path.{_≡_, refl, ap}
+use mathlib.Core.Path.{_≡_, refl, sym, ap}
 use mathlib.Core.Bool.{Bool, true, false, cond}
 use mathlib.Core.List.{List, [], _∷_}
 use mathlib.Core.Option.{Option, none, some}
@@ -75,3 +75,13 @@ module _ {D : Type 0} (refused : Refusal → D) where
 -- no refusal is no refusal
 pub none-is-none : (r : Refusal) → none ≡ some r → ⊥
 none-is-none r p = let z : _≡_ {A = ℕ} 0 1 = cc in omega arith
+
+-- where no refusal applies no ground holds
+pub none-holds : (gs : List Ground) → firstOf gs ≡ none → NoneHolds gs
+unfolding firstOf
+none-holds [] e = tt
+none-holds (g ∷ gs) e = go (g .1) refl e (none-holds gs)
+  where
+    go : (b : Bool) → g .1 ≡ b → cond b (some (g .0)) (firstOf gs) ≡ none → (firstOf gs ≡ none → NoneHolds gs) → NoneHolds (g ∷ gs)
+    go true p q rest = absurd (none-is-none (g .0) (sym q))
+    go false p q rest = (p, rest q)

@@ -1,0 +1,11 @@
+pub mod Apart
+pub mod Flows
+pub mod Kept
+pub mod Calls
+pub mod NoneMissed
+pub mod Heaviest
+pub mod Beyond
+pub mod Turns
+pub mod Example
+pub mod Needed
+pub mod Guarantee

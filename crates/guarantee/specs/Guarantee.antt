@@ -1,0 +1,39 @@
+-- What a client is sold: flows that keep an admitted list lose no cell, and for a list that fails or is too fast there are cells within it that
+-- nobody could send in time.
+use mathlib.Core.Path.{_≡_}
+use mathlib.Core.List.{List, _++_, map}
+use Prim.Native.Nat.{ℕ, _*_, _<_}
+use lib.ListN.{length}
+use Rattle.link.specs.Rate.{greatestOf}
+use Rattle.link.specs.Verdicts.{admitOf}
+use Rattle.link.specs.declared.Declaration.{Declaration}
+use Rattle.link.specs.declared.Verdict.the-variants.{FailsAt, Rate}
+use Rattle.station.specs.declared.Call.{Call}
+use Rattle.promises_urgent.specs.Plans.{Sending, Plan}
+use Rattle.promises.specs.Run.{run}
+use Rattle.guarantee.specs.Arrivals.{Arrival, WithinDeclarations, windowIn}
+use Rattle.guarantee.specs.Heaviest.{heaviest}
+use Rattle.guarantee.specs.Conditions.{Conditions, NoneMissed}
+use Rattle.guarantee.specs.Example.{Met, TooMuch}
+use Rattle.guarantee.specs.Needed.{Needed}
+
+-- cells within the declarations that nobody could send: every plan, over whatever slots, sends fewer of them than there are
+pub record Beyond (ds : List Declaration) (cells : List Arrival) : Type 0 where
+  pub within : WithinDeclarations ds cells
+  pub noPlan :
+      (slots : List ℕ) (plan : List Sending) → Plan (map (windowIn ds) cells) slots plan → length plan < length cells
+
+pub record Guarantee : Type 0 where
+  -- G1: under the conditions no cell is missed, whatever is called besides
+  pub G1 : (ds : List Declaration) (calls : List Call) → Conditions ds calls → NoneMissed (run calls .cells)
+  -- ever: nor was any missed after some of the calls
+  pub G1-ever : (ds : List Declaration) (xs ys : List Call) → Conditions ds (xs ++ ys) → NoneMissed (run xs .cells)
+  -- the conditions can be met, and none of them can be left out
+  pub G1-met : Met
+  pub G1-needed : Needed
+  -- G2: of a list that fails at t the heaviest cells by t are within the declarations, and nobody could send them all
+  pub G2-fails : (ds : List Declaration) (t : ℕ) → admitOf ds ≡ FailsAt t → Beyond ds (heaviest ds t)
+  -- and of a list of too high a rate those by 5,041 times its greatest deadline
+  pub G2-rate : (ds : List Declaration) → admitOf ds ≡ Rate → Beyond ds (heaviest ds (5041 * greatestOf ds))
+  -- there are such lists, case K among them
+  pub G2-met : TooMuch
