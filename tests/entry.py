@@ -1,5 +1,6 @@
 """Tests of the entry ./tuhkeliar: from wherever it is called, its words, and what it lacks."""
 import os
+import re
 import shutil
 
 import named
@@ -71,6 +72,18 @@ def from_anywhere():
         silent(what, words, given, replies, **how)
     silent('admit', [links / 'chain', 'admit'], b'1 2 1 1 2 2\n1 2 1 1 2 1\n\n', b'admitted\nfails 1\nadmitted\n')
     return 'the entry is right from wherever it is called'
+
+
+def examples():
+    """the sessions and lists that README and the page on the guarantee show are answered as they say"""
+    shown = re.compile(r"^    \$ (printf '[^']*' \| \./tuhkeliar(?: admit)?)\n((?:    [^ $].*\n)+)", re.M)
+    found = [(page, *one) for page in ('README.md', 'docs/GUARANTEE.md') for one in shown.findall((ROOT / page).read_text())]
+    for page, command, replies in found:
+        expected = ''.join(re.split('  +', line.strip())[0] + '\n' for line in replies.splitlines())
+        silent('%s: %s' % (page, command), ['bash', '-c', command], b'', expected.encode(), cwd=ROOT)
+    if len(found) < 6:
+        fail('README and docs/GUARANTEE.md show %d sessions and lists' % len(found))
+    return 'the %d sessions and lists that README and docs/GUARANTEE.md show are answered as they say' % len(found)
 
 
 def words():
