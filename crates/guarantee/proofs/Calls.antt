@@ -31,9 +31,9 @@ use Rattle.guarantee.specs.Conditions.{NoneLost}
 use Rattle.guarantee.proofs.Kept.{before}
 
 -- ---- what a call can add to what is noted of the cells
--- an accepted cell has the deadline then in force
+-- an accepted cell arrives in the slot that is next, with the deadline in force
 abbrev InForce : Cells → Cell → Type 0
-InForce h a = a .deadline ≡ deadlineIn h (a .flow)
+InForce h a = (a .arrival ≡ h .slot) × (a .deadline ≡ deadlineIn h (a .flow))
 
 -- the history after a turn
 abbrev turnedTo : Cells → Bool → List Gone → ℕ → Cells
@@ -71,7 +71,7 @@ module _ (h : Cells) where
   closing flow (Idle m) = nothing
 
   offering : (flow : ℕ) (answer : Answer) → Step h (OfferCell flow) (Urgent answer) (noteOffer h flow answer)
-  offering flow (Accepted number last) = cell _ refl refl refl
+  offering flow (Accepted number last) = cell _ refl refl (refl, refl)
   offering flow (Refused r) = nothing
   offering flow Opened = nothing
   offering flow Closed = nothing
@@ -155,9 +155,23 @@ opening-step : (xs : List Call) (call : Call) {later : Cells} → Step (run xs .
     → Each (OfOpening (run xs .cells .marks)) (run xs .cells .accepted) → Each (OfOpening (later .marks)) (later .accepted)
 opening-step xs call nothing e = e
 opening-step xs call (mark m) e = each-map (OfOpening (run xs .cells .marks)) (OfOpening (m ∷ run xs .cells .marks)) (λ a s. inr s) (run xs .cells .accepted) e
-opening-step xs call (cell a o r d) e = (rw (sym d) at (force-told (run xs .cells .marks) (a .flow) (open-then xs (a .flow) (rw o at r))), e)
+opening-step xs call (cell a o r d) e = (rw (sym (d .1)) at (force-told (run xs .cells .marks) (a .flow) (open-then xs (a .flow) (rw o at r))), e)
 opening-step xs call (turn usable sent missed lost) e = e
 
 pub openings : (calls : List Call) → Each (OfOpening (run calls .cells .marks)) (run calls .cells .accepted)
 unfolding runFrom
 openings = by-calls (λ xs. Each (OfOpening (run xs .cells .marks)) (run xs .cells .accepted)) tt (λ xs call earlier. opening-step xs call (one-more xs call) earlier)
+
+-- ---- no cell arrives after the slot that is next
+abbrev pub Arrived : Cells → Type 0
+Arrived h = Each (λ (a : Cell). a .arrival ≤ h .slot) (h .accepted)
+
+arrived-step : {h later : Cells} {call : Call} {reply : Reply} → Step h call reply later → Arrived h → Arrived later
+arrived-step nothing e = e
+arrived-step (mark m) e = e
+arrived-step (cell a o r d) e = (omega (arith, d .0), e)
+arrived-step {h = h} (turn usable sent missed lost) e = each-map (λ (a : Cell). a .arrival ≤ h .slot) (λ (a : Cell). a .arrival ≤ suc (h .slot)) (λ a l. omega arith) (h .accepted) e
+
+pub arrived : (calls : List Call) → Arrived (run calls .cells)
+unfolding runFrom
+arrived = by-calls (λ xs. Arrived (run xs .cells)) tt (λ xs call earlier. arrived-step (one-more xs call) earlier)

@@ -1,26 +1,26 @@
 -- Cells within an admitted list overload no slots. Of one flow only so many cells can be due from slot s to slot b as its declaration demands
--- by b + 1 − s, since they all arrive in the slots from s to b + 1 − D; so flow by flow no more are due than the list demands, which is no
--- more than there are slots.
+-- by b + 1 − s, since they all arrive in the slots from s to b + 1 − D; so flow by flow no more are due than the list demands, which is at
+-- most the number of these slots.
 use mathlib.Core.Path.{_≡_}
 use mathlib.Core.Bool.{Bool, true, _&&_}
 use mathlib.Core.List.{List, [], _∷_, map}
 use Prim.Native.Nat.{ℕ, zero, suc, _+_, _-_, _≤_, _<_}
 use native.Mathlib.Decide.{decLe}
+use native.Mathlib.Nat.{le-trans}
 use native.Mathlib.Omega.{arith}
 use borrow.Author.Tests.{leb-true, eqb-true, le-leb, lt-leb, lt-ltb, eq-eqb}
 use lib.Dec.{leb, eqb}
-use lib.ListN.{length}
 use Rattle.places.specs.Places.{bit, count}
 use Rattle.places.proofs.Count.{bit-le, count-le, count-map, count-none}
 use Rattle.places.proofs.Tests.{and-told}
 use Rattle.link.specs.declared.Declaration.{Declaration}
-use Rattle.link.specs.Demand.{demandOne, demandOf}
+use Rattle.link.specs.Demand.{demandOne}
 use Rattle.link.specs.Published.{Fits, Keeps}
 use Rattle.promises_urgent.specs.Plans.{Window, due, slotsIn, Overloaded}
 use Rattle.guarantee.specs.Arrivals.{Arrival, declared, arrivesIn, KeepsDeclaration, WithinDeclarations, windowIn}
 use Rattle.guarantee.proofs.Flows.{all-flows}
 
-module _ (ds : List Declaration) (cells : List Arrival) (s b : ℕ) (l : s ≤ b) where
+module _ (ds : List Declaration) (cells : List Arrival) (s b : ℕ) where
   -- a cell's window lies from slot s to slot b
   abbrev liesIn : Arrival → Bool
   liesIn a = leb s (windowIn ds a .first) && leb (windowIn ds a .last) b
@@ -49,12 +49,12 @@ module _ (ds : List Declaration) (cells : List Arrival) (s b : ℕ) (l : s ≤ b
             rw (lt-leb (declared ds flow .deadline) (b + 1 - s) (omega arith))
             (omega (arith, count-none (λ (a : Arrival). eqb (a .flow) flow && liesIn a) cells (record { flow = 0; slot = 0 }) (λ i e. let w = told _ e in omega (arith, w .1, w .2))))
 
-  -- no more cells are due from s to b than the list demands by so many slots
-  due-most : WithinDeclarations ds cells → ((flow : ℕ) → flow < length ds → 1 ≤ declared ds flow .deadline)
-      → due (map (windowIn ds) cells) s b ≤ demandOf ds (b + 1 - s)
-  due-most w some =
-      rw (count-map (windowIn ds) (λ (v : Window). leb s (v .first) && leb (v .last) b) cells)
-      (all-flows ds liesIn cells (b + 1 - s) (λ flow m. one-flow flow (w .keep flow m) (some flow m)) (w .others))
+-- no more cells are due from s to b than there are slots from s to b
+pub due-most : (ds : List Declaration) → Fits ds → Keeps ds → (cells : List Arrival) → WithinDeclarations ds cells
+    → (s b : ℕ) → due (map (windowIn ds) cells) s b ≤ b + 1 - s
+due-most ds fits enough cells w s b =
+    rw (count-map (windowIn ds) (λ (v : Window). leb s (v .first) && leb (v .last) b) cells)
+    (le-trans (all-flows ds (liesIn ds cells s b) cells (b + 1 - s) (λ flow m. one-flow ds cells s b flow (w .keep flow m) (fits .within flow m .2 .0)) (w .others)) (enough (b + 1 - s)))
 
 -- the slots before slot n, the newest first
 unfoldable pub before : ℕ → List ℕ
@@ -76,10 +76,4 @@ slots-there (suc n) s b c l m = go (decLe c n) (decLe s n) (slots-there n s b)
 pub not-overloaded : (ds : List Declaration) → Fits ds → Keeps ds → (cells : List Arrival) → WithinDeclarations ds cells
     → (now : ℕ) (w : Window) → w .first ≤ w .last → w .last < now → Overloaded (map (windowIn ds) cells) (before now) w → ⊥
 not-overloaded ds fits enough cells within now w l m (s, a, more) =
-    omega (
-      arith,
-      more,
-      due-most ds cells s (w .last) (omega arith) within (λ flow k. fits .within flow k .2 .0),
-      enough (w .last + 1 - s),
-      slots-there now s (w .last) (w .last + 1) (omega arith) (omega arith),
-    )
+    omega (arith, more, due-most ds fits enough cells within s (w .last), slots-there now s (w .last) (w .last + 1) (omega arith) (omega arith))

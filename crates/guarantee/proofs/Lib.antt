@@ -1,8 +1,10 @@
 pub mod Apart
+pub mod Served
 pub mod Flows
 pub mod Kept
 pub mod Calls
 pub mod NoneMissed
+pub mod Places
 pub mod Heaviest
 pub mod Beyond
 pub mod Turns

@@ -26,7 +26,7 @@ use Rattle.guarantee.proofs.Kept.{not-overloaded}
 use Rattle.guarantee.proofs.Calls.{EverySlot, every-slot, missed-more, OfOpening, openings}
 
 -- a cell has its flow's declared deadline
-abbrev Full : List Declaration → Cell → Type 0
+abbrev pub Full : List Declaration → Cell → Type 0
 Full ds a = a .deadline ≡ declared ds (a .flow) .deadline
 
 -- cells with the declared deadlines have the declared windows
@@ -65,21 +65,21 @@ full-of ds marks opened a o l =
     one : (m : Mark) → m ≡ opens (a .flow) (a .deadline) → AsDeclared ds m → Full ds a
     one m e w = (rw e at w) l
 
+pub all-full : (ds : List Declaration) (calls : List Call) → Conditions ds calls → Each (Full ds) (run calls .cells .accepted)
+all-full ds calls c =
+    each-map (λ (a : Cell). OfOpening (run calls .cells .marks) a × (a .flow < length ds)) (Full ds)
+    (λ a w. full-of ds (run calls .cells .marks) (c .opened) a (w .0) (w .1)) (run calls .cells .accepted)
+    (each-both (OfOpening (run calls .cells .marks)) (λ (a : Cell). a .flow < length ds) (run calls .cells .accepted) (openings calls)
+    (each-made arrivalOf (λ (a : Arrival). a .flow < length ds) (run calls .cells .accepted) (c .others)))
+
 pub G1 : (ds : List Declaration) (calls : List Call) → Conditions ds calls → NoneMissed (run calls .cells)
 G1 ds calls c =
     record { cells = cells; counts = promises .U1 calls .missedAddUp ∙ none-counted (isMissed (run calls .cells)) (run calls .cells .accepted) cells }
   where
-    full : Each (Full ds) (run calls .cells .accepted)
-    full =
-        each-map (λ (a : Cell). OfOpening (run calls .cells .marks) a × (a .flow < length ds)) (Full ds)
-        (λ a w. full-of ds (run calls .cells .marks) (c .opened) a (w .0) (w .1)) (run calls .cells .accepted)
-        (each-both (OfOpening (run calls .cells .marks)) (λ (a : Cell). a .flow < length ds) (run calls .cells .accepted) (openings calls)
-        (each-made arrivalOf (λ (a : Arrival). a .flow < length ds) (run calls .cells .accepted) (c .others)))
-
     cells : Each (λ (a : Cell). isMissed (run calls .cells) a ≡ false) (run calls .cells .accepted)
     cells =
         let fits = promises .A1 .admitted ds .0 (c .admitted) in
-        none-missed ds (fits .0) (fits .1) (run calls .cells) (every-slot calls (c .turns)) full (record { keep = c .keep; others = c .others })
+        none-missed ds (fits .0) (fits .1) (run calls .cells) (every-slot calls (c .turns)) (all-full ds calls c) (record { keep = c .keep; others = c .others })
         (promises .U3-windows calls) (promises .U6 calls)
 
 pub G1-ever : (ds : List Declaration) (xs ys : List Call) → Conditions ds (xs ++ ys) → NoneMissed (run xs .cells)

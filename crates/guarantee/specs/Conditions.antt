@@ -2,8 +2,8 @@
 use mathlib.Core.Path.{_≡_}
 use mathlib.Core.Logic.{_≢_}
 use mathlib.Core.Bool.{false}
-use mathlib.Core.List.{List, map}
-use Prim.Native.Nat.{_<_}
+use mathlib.Core.List.{List, _∷_, map}
+use Prim.Native.Nat.{ℕ, _+_, _-_, _/_, _≤_, _<_}
 use lib.ListN.{length}
 use Rattle.places.specs.Members.{Each}
 use Rattle.places.specs.Marks.{Mark, opens, closes}
@@ -53,3 +53,11 @@ pub record Conditions (ds : List Declaration) (calls : List Call) : Type 0 where
 pub record NoneMissed (h : Cells) : Type 0 where
   pub cells : Each (λ (a : Cell). isMissed h a ≡ false) (h .accepted)
   pub counts : h .missed ≡ 0
+
+-- one cell more of a flow, offered now
+abbrev pub withOne : List Call → ℕ → List Arrival
+withOne calls flow = record { flow = flow; slot = run calls .cells .slot } ∷ arrivals calls
+
+-- the cells of a flow that can wait at once, which all arrive within a deadline, are no more than its places
+abbrev pub HaveRoom : Declaration → Type 0
+HaveRoom d = d .burst + (d .deadline - 1) / d .period ≤ 16

@@ -1,19 +1,25 @@
 -- What a client is sold: flows that keep an admitted list lose no cell, and for a list that fails or is too fast there are cells within it that
 -- nobody could send in time.
 use mathlib.Core.Path.{_≡_}
+use mathlib.Core.Logic.{_≢_, _↔_}
 use mathlib.Core.List.{List, _++_, map}
+use mathlib.Core.Option.{some}
 use Prim.Native.Nat.{ℕ, _*_, _<_}
 use lib.ListN.{length}
+use Rattle.units.specs.declared.Refusal.the-variants.{PlacesFull}
 use Rattle.link.specs.Rate.{greatestOf}
 use Rattle.link.specs.Verdicts.{admitOf}
+use Rattle.link.specs.Published.{Fits}
 use Rattle.link.specs.declared.Declaration.{Declaration}
-use Rattle.link.specs.declared.Verdict.the-variants.{FailsAt, Rate}
+use Rattle.link.specs.declared.Verdict.the-variants.{Admitted, FailsAt, Rate}
 use Rattle.station.specs.declared.Call.{Call}
+use Rattle.station.specs.declared.Call.the-variants.{OfferCell}
+use Rattle.station.specs.Answers.{refusalIn}
 use Rattle.promises_urgent.specs.Plans.{Sending, Plan}
-use Rattle.promises.specs.Run.{run}
-use Rattle.guarantee.specs.Arrivals.{Arrival, WithinDeclarations, windowIn}
+use Rattle.promises.specs.Run.{run, replyTo}
+use Rattle.guarantee.specs.Arrivals.{Arrival, declared, KeepsDeclaration, WithinDeclarations, windowIn}
 use Rattle.guarantee.specs.Heaviest.{heaviest}
-use Rattle.guarantee.specs.Conditions.{Conditions, NoneMissed}
+use Rattle.guarantee.specs.Conditions.{Conditions, NoneMissed, withOne, HaveRoom}
 use Rattle.guarantee.specs.Example.{Met, TooMuch}
 use Rattle.guarantee.specs.Needed.{Needed}
 
@@ -23,11 +29,21 @@ pub record Beyond (ds : List Declaration) (cells : List Arrival) : Type 0 where
   pub noPlan :
       (slots : List ℕ) (plan : List Sending) → Plan (map (windowIn ds) cells) slots plan → length plan < length cells
 
+-- cells that could all be sent: some plan, over some slots, sends as many of them as there are
+abbrev pub Sendable : List Declaration → List Arrival → Type 0
+Sendable ds cells =
+    (slots : List ℕ) × (plan : List Sending) × Plan (map (windowIn ds) cells) slots plan × (length plan ≡ length cells)
+
 pub record Guarantee : Type 0 where
   -- G1: under the conditions no cell is missed, whatever is called besides
   pub G1 : (ds : List Declaration) (calls : List Call) → Conditions ds calls → NoneMissed (run calls .cells)
   -- ever: nor was any missed after some of the calls
   pub G1-ever : (ds : List Declaration) (xs ys : List Call) → Conditions ds (xs ++ ys) → NoneMissed (run xs .cells)
+  -- under them a cell with which its flow still keeps its declaration finds a place, if the cells of a whole deadline have room
+  pub G1-places :
+      (ds : List Declaration) (calls : List Call) → Conditions ds calls
+      → (flow : ℕ) → flow < length ds → KeepsDeclaration (declared ds flow) flow (withOne calls flow) → HaveRoom (declared ds flow)
+      → refusalIn (replyTo calls (OfferCell flow)) ≢ some PlacesFull
   -- the conditions can be met, and none of them can be left out
   pub G1-met : Met
   pub G1-needed : Needed
@@ -35,5 +51,9 @@ pub record Guarantee : Type 0 where
   pub G2-fails : (ds : List Declaration) (t : ℕ) → admitOf ds ≡ FailsAt t → Beyond ds (heaviest ds t)
   -- and of a list of too high a rate those by 5,041 times its greatest deadline
   pub G2-rate : (ds : List Declaration) → admitOf ds ≡ Rate → Beyond ds (heaviest ds (5041 * greatestOf ds))
-  -- there are such lists, case K among them
+  -- so a list within its limits is admitted exactly where all cells within its declarations could be sent, whichever they are
+  pub G2-exact :
+      (ds : List Declaration) → Fits ds
+      → (admitOf ds ≡ Admitted) ↔ ((cells : List Arrival) → WithinDeclarations ds cells → Sendable ds cells)
+  -- there are lists that are not admitted, case K among them
   pub G2-met : TooMuch

@@ -3,12 +3,13 @@ use mathlib.Core.Path.{_≡_, refl}
 use mathlib.Core.Logic.{inl, inr}
 use mathlib.Core.Bool.{Bool, true, false}
 use mathlib.Core.List.{List, [], _∷_, _++_, map}
-use Prim.Native.Nat.{ℕ, zero, suc, _+_, _<_}
+use Prim.Native.Nat.{ℕ, zero, suc, _+_, _≤_, _<_}
 use native.Mathlib.Nat.{not-suc-le-zero}
 use native.Mathlib.Omega.{arith}
 use lib.ListN.{length, getD, replicate}
 use Rattle.places.specs.Places.{bit, count}
 use Rattle.places.specs.Members.{Each, Some}
+use Rattle.places.proofs.Count.{bit-le}
 
 module _ {A : Type 0} where
   -- none passes
@@ -25,6 +26,12 @@ module _ {A : Type 0} where
   unfolding count
   none-counted p [] e = refl
   none-counted p (x ∷ xs) e = rw (e .0) (omega (arith, none-counted p xs (e .1)))
+
+  -- of a list of which each member that passes a test passes another, no more pass the first
+  pub each-counts : (p q : A → Bool) (xs : List A) → Each (λ x. p x ≡ true → q x ≡ true) xs → count p xs ≤ count q xs
+  unfolding count
+  each-counts p q [] e = omega arith
+  each-counts p q (x ∷ xs) e = omega (arith, bit-le (p x) (q x) (e .0), each-counts p q xs (e .1))
 
   -- some passes
   pub some-passes : (p : A → Bool) (xs : List A) → 0 < count p xs → Some (λ x. p x ≡ true) xs
@@ -47,6 +54,10 @@ module _ {A : Type 0} where
   pub each-append : (P : A → Type 0) (xs ys : List A) → Each P xs → Each P ys → Each P (xs ++ ys)
   each-append P [] ys e f = f
   each-append P (x ∷ xs) ys e f = (e .0, each-append P xs ys (e .1) f)
+
+  pub each-put : (P : A → Type 0) (xs : List A) (y : A) (ys : List A) → P y → Each P (xs ++ ys) → Each P (xs ++ y ∷ ys)
+  each-put P [] y ys p e = (p, e)
+  each-put P (x ∷ xs) y ys p e = (e .0, each-put P xs y ys p (e .1))
 
   pub each-first : (P : A → Type 0) (xs ys : List A) → Each P (xs ++ ys) → Each P xs
   each-first P [] ys e = tt

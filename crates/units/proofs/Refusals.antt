@@ -1,7 +1,7 @@
 -- Which number no refusal has; what a call gives for a list of grounds: it goes through where none of them holds, and is refused for the
 -- first that does.
-use mathlib.Core.Path.{_≡_, refl, sym, ap}
-use mathlib.Core.Bool.{Bool, true, false, cond}
+use mathlib.Core.Path.{_≡_, refl, sym, ap, _∙_}
+use mathlib.Core.Bool.{Bool, true, false, cond, true≢false}
 use mathlib.Core.List.{List, [], _∷_}
 use mathlib.Core.Option.{Option, none, some}
 use Prim.Native.Nat.{ℕ, _≤_}
@@ -76,6 +76,14 @@ module _ {D : Type 0} (refused : Refusal → D) where
 pub none-is-none : (r : Refusal) → none ≡ some r → ⊥
 none-is-none r p = let z : _≡_ {A = ℕ} 0 1 = cc in omega arith
 
+some-is-some : (r s : Refusal) → some r ≡ some s → r ≡ s
+some-is-some r s p = cc
+
+-- no ground of this refusal in a list holds
+abbrev pub Unheld : Refusal → List Ground → Type 0
+Unheld r [] = Unit {0}
+Unheld r (g ∷ gs) = (g .0 ≡ r → g .1 ≡ false) × Unheld r gs
+
 -- where no refusal applies no ground holds
 pub none-holds : (gs : List Ground) → firstOf gs ≡ none → NoneHolds gs
 unfolding firstOf
@@ -85,3 +93,13 @@ none-holds (g ∷ gs) e = go (g .1) refl e (none-holds gs)
     go : (b : Bool) → g .1 ≡ b → cond b (some (g .0)) (firstOf gs) ≡ none → (firstOf gs ≡ none → NoneHolds gs) → NoneHolds (g ∷ gs)
     go true p q rest = absurd (none-is-none (g .0) (sym q))
     go false p q rest = (p, rest q)
+
+-- a refusal none of whose grounds holds is not given
+pub not-given : (r : Refusal) (gs : List Ground) → Unheld r gs → firstOf gs ≡ some r → ⊥
+unfolding firstOf
+not-given r [] n e = none-is-none r e
+not-given r (g ∷ gs) n e = go (g .1) refl e (not-given r gs (n .1))
+  where
+    go : (b : Bool) → g .1 ≡ b → cond b (some (g .0)) (firstOf gs) ≡ some r → (firstOf gs ≡ some r → ⊥) → ⊥
+    go true p q rest = true≢false (sym p ∙ n .0 (some-is-some (g .0) r q))
+    go false p q rest = rest q
