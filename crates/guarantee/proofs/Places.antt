@@ -2,8 +2,8 @@
 -- one. Where its declaration allows no more than sixteen there, fewer than sixteen wait.
 use mathlib.Core.Path.{_≡_, sym, ap, _∙_}
 use mathlib.Core.Logic.{_≢_}
-use mathlib.Core.Bool.{true, _&&_}
-use mathlib.Core.List.{List}
+use mathlib.Core.Bool.{Bool, true, _&&_}
+use mathlib.Core.List.{List, _∷_, map}
 use mathlib.Core.Option.{some}
 use Prim.Native.Nat.{ℕ, suc, _+_, _-_, _≤_, _<_}
 use native.Mathlib.Omega.{arith}
@@ -13,7 +13,7 @@ use lib.ListN.{length}
 use Rattle.units.specs.Refusals.{numberOf}
 use Rattle.units.specs.declared.Refusal.{Refusal}
 use Rattle.units.specs.declared.Refusal.the-variants.{NoSuchFlow, NotOpen, PlacesFull, SlotsUsedUp}
-use Rattle.units.proofs.Refusals.{not-given}
+use Rattle.units.proofs.Refusals.{Unheld, not-given}
 use Rattle.places.specs.Places.{count}
 use Rattle.places.specs.Members.{Each}
 use Rattle.places.proofs.Count.{count-map}
@@ -23,70 +23,77 @@ use Rattle.link.specs.declared.Declaration.{Declaration}
 use Rattle.station.specs.declared.Call.{Call}
 use Rattle.station.specs.declared.Call.the-variants.{OfferCell}
 use Rattle.station.specs.Answers.{refusalIn}
-use Rattle.promises_urgent.specs.Cells.{Cell, waits, windowOf}
+use Rattle.promises_urgent.specs.Cells.{Cell, Cells, waits, windowOf}
 use Rattle.promises_urgent.specs.Promised.{waitingIn}
 use Rattle.promises_urgent.proofs.Steps.{waits-told}
 use Rattle.promises.specs.Promises.{groundsNoted}
 use Rattle.promises.specs.Run.{run, replyTo}
 use Rattle.promises.proofs.Promises.{promises}
-use Rattle.guarantee.specs.Arrivals.{declared, arrivesIn, KeepsDeclaration}
+use Rattle.guarantee.specs.Arrivals.{Arrival, declared, arrivesIn, KeepsDeclaration}
 use Rattle.guarantee.specs.Conditions.{arrivalOf, arrivals, Conditions, withOne, HaveRoom}
 use Rattle.guarantee.proofs.Calls.{arrived}
 use Rattle.guarantee.proofs.NoneMissed.{Full, all-full}
 
-module _ (ds : List Declaration) (calls : List Call) (c : Conditions ds calls) (flow : ℕ) (l : flow < length ds) where
-  -- the first slot in which a cell that waits now can have arrived
-  abbrev since : ℕ
-  since = run calls .cells .slot + 1 - declared ds flow .deadline
+-- what is known of an accepted cell, if its flow is one with deadline D
+abbrev Known : Cells → ℕ → ℕ → Cell → Type 0
+Known h flow D a = (a .arrival ≤ h .slot) × (a .flow ≡ flow → a .deadline ≡ D) × (a .last ≡ windowOf a .last)
 
-  -- what is known of an accepted cell
-  abbrev Known : Cell → Type 0
-  Known a = (a .arrival ≤ run calls .cells .slot) × Full ds a × ((a .last ≡ windowOf a .last) × (1 ≤ a .deadline))
+module _ (h : Cells) (flow D : ℕ) (long : 1 ≤ D) where
+  -- a cell arrives in the D slots up to now
+  abbrev recent : Arrival → Bool
+  recent a = arrivesIn flow (h .slot + 1 - D) D a
 
-  known : Each Known (run calls .cells .accepted)
-  known =
-      each-map _ Known (λ a w. (w .0, w .1 .0, w .1 .1)) (run calls .cells .accepted)
-      (each-both (λ (a : Cell). a .arrival ≤ run calls .cells .slot) (λ (a : Cell). Full ds a × ((a .last ≡ windowOf a .last) × (1 ≤ a .deadline))) (run calls .cells .accepted)
-      (arrived calls) (each-both (Full ds) _ (run calls .cells .accepted) (all-full ds calls c) (promises .U3-windows calls)))
+  waits-recent : (a : Cell) → Known h flow D a → (eqb (a .flow) flow && waits h a) ≡ true → recent (arrivalOf a) ≡ true
+  waits-recent a w e =
+      let own = and-told (eqb (a .flow) flow) (waits h a) e in
+      let f : a .flow ≡ flow = eqb-true (a .flow) flow (own .0) in
+      rw (eq-eqb (a .flow) flow f, le-leb (h .slot + 1 - D) (a .arrival) (omega (arith, waits-told h a (own .1) .1, w .1 f, w .2)))
+      (lt-ltb (a .arrival) (h .slot + 1 - D + D) (omega (arith, w .0)))
 
-  waits-since : (a : Cell) → Known a → (eqb (a .flow) flow && waits (run calls .cells) a) ≡ true → arrivesIn flow since (declared ds flow .deadline) (arrivalOf a) ≡ true
-  waits-since a w e =
-      let f : a .flow ≡ flow = eqb-true (a .flow) flow (and-told (eqb (a .flow) flow) _ e .0) in
-      let t = waits-told (run calls .cells) a (and-told (eqb (a .flow) flow) _ e .1) in
-      let d : a .deadline ≡ declared ds flow .deadline = rw f at (w .1) in
-      rw (eq-eqb (a .flow) flow f, le-leb since (a .arrival) (omega (arith, t .1, w .2 .0, w .2 .1, d)))
-      (lt-ltb (a .arrival) (since + declared ds flow .deadline) (omega (arith, w .0)))
+  few-wait : Each (Known h flow D) (h .accepted) → waitingIn h flow ≤ count recent (map arrivalOf (h .accepted))
+  few-wait known =
+      rw (count-map arrivalOf recent (h .accepted))
+      (each-counts (λ (a : Cell). eqb (a .flow) flow && waits h a) (λ (a : Cell). recent (arrivalOf a)) (h .accepted)
+      (each-map (Known h flow D) _ waits-recent (h .accepted) known))
 
-  few-wait : waitingIn (run calls .cells) flow ≤ count (arrivesIn flow since (declared ds flow .deadline)) (arrivals calls)
-  few-wait =
-      rw (count-map arrivalOf (arrivesIn flow since (declared ds flow .deadline)) (run calls .cells .accepted))
-      (each-counts (λ (a : Cell). eqb (a .flow) flow && waits (run calls .cells) a) (λ (a : Cell). arrivesIn flow since (declared ds flow .deadline) (arrivalOf a)) (run calls .cells .accepted)
-      (each-map Known (λ (a : Cell). (eqb (a .flow) flow && waits (run calls .cells) a) ≡ true → arrivesIn flow since (declared ds flow .deadline) (arrivalOf a) ≡ true) waits-since (run calls .cells .accepted) known))
-
-  -- the cell offered now is in those slots too
-  one-more : 1 ≤ declared ds flow .deadline
-      → count (arrivesIn flow since (declared ds flow .deadline)) (withOne calls flow) ≡ suc (count (arrivesIn flow since (declared ds flow .deadline)) (arrivals calls))
+  -- so does a cell that is offered now
+  one-more : (cells : List Arrival) → count recent (record { flow = flow; slot = h .slot } ∷ cells) ≡ suc (count recent cells)
   unfolding count
-  one-more long =
-      rw (eqb-self flow, le-leb since (run calls .cells .slot) (omega arith), lt-ltb (run calls .cells .slot) (since + declared ds flow .deadline) (omega arith)) (omega arith)
+  one-more cells =
+      rw (eqb-self flow, le-leb (h .slot + 1 - D) (h .slot) (omega arith), lt-ltb (h .slot) (h .slot + 1 - D + D) (omega arith)) (omega arith)
 
-  fewer-wait : KeepsDeclaration (declared ds flow) flow (withOne calls flow) → HaveRoom (declared ds flow) → waitingIn (run calls .cells) flow < 16
-  fewer-wait keeps room =
-      let long : 1 ≤ declared ds flow .deadline = promises .A1 .admitted ds .0 (c .admitted) .0 .within flow l .2 .0 in
-      omega (arith, few-wait, one-more long, keeps since (declared ds flow .deadline) long, room)
+module _ (ds : List Declaration) (calls : List Call) (c : Conditions ds calls) (flow : ℕ) where
+  all-known : Each (Known (run calls .cells) flow (declared ds flow .deadline)) (run calls .cells .accepted)
+  all-known =
+      each-map _ (Known (run calls .cells) flow (declared ds flow .deadline)) (λ a w. (w .0, (λ f. rw f at (w .1 .0)), w .1 .1 .0)) (run calls .cells .accepted)
+      (each-both (λ (a : Cell). a .arrival ≤ run calls .cells .slot) _ (run calls .cells .accepted) (arrived calls)
+      (each-both (Full ds) (λ (a : Cell). (a .last ≡ windowOf a .last) × (1 ≤ a .deadline)) (run calls .cells .accepted) (all-full ds calls c) (promises .U3-windows calls)))
+
+  fewer-wait : flow < length ds → KeepsDeclaration (declared ds flow) flow (withOne calls flow) → HaveRoom (declared ds flow)
+      → waitingIn (run calls .cells) flow < 16
+  fewer-wait l keeps room =
+      let D = declared ds flow .deadline in
+      let long : 1 ≤ D = promises .A1 .admitted ds .0 (c .admitted) .0 .within flow l .2 .0 in
+      omega (
+        arith,
+        few-wait (run calls .cells) flow D long all-known,
+        one-more (run calls .cells) flow D long (arrivals calls),
+        keeps (run calls .cells .slot + 1 - D) D long,
+        room,
+      )
+
+-- a refusal of another number is not 5
+other : (r : Refusal) → (numberOf r ≡ 5 → ⊥) → r ≡ PlacesFull → ⊥
+other r n q = n (ap numberOf q)
 
 pub G1-places : (ds : List Declaration) (calls : List Call) → Conditions ds calls
     → (flow : ℕ) → flow < length ds → KeepsDeclaration (declared ds flow) flow (withOne calls flow) → HaveRoom (declared ds flow)
     → refusalIn (replyTo calls (OfferCell flow)) ≢ some PlacesFull
 G1-places ds calls c flow l keeps room e =
-    not-given PlacesFull (groundsNoted (run calls) (OfferCell flow)) (
+    let free = lt-leb 16 (waitingIn (run calls .cells) flow) (fewer-wait ds calls c flow l keeps room) in
+    let unheld : Unheld PlacesFull (groundsNoted (run calls) (OfferCell flow)) = (
       (λ q. absurd (other NoSuchFlow (omega arith) q)),
-      (
-        (λ q. absurd (other NotOpen (omega arith) q)),
-        ((λ q. lt-leb 16 (waitingIn (run calls .cells) flow) (fewer-wait ds calls c flow l keeps room)), ((λ q. absurd (other SlotsUsedUp (omega arith) q)), tt)),
-      ),
+      ((λ q. absurd (other NotOpen (omega arith) q)), ((λ q. free), ((λ q. absurd (other SlotsUsedUp (omega arith) q)), tt))),
     )
-    (sym (promises .S4 calls (OfferCell flow)) ∙ e)
-  where
-    other : (r : Refusal) → (numberOf r ≡ 5 → ⊥) → r ≡ PlacesFull → ⊥
-    other r n q = n (ap numberOf q)
+    in
+    not-given PlacesFull (groundsNoted (run calls) (OfferCell flow)) unheld (sym (promises .S4 calls (OfferCell flow)) ∙ e)
