@@ -69,7 +69,7 @@ def has_room(declaration):
 
 
 def none_missed():
-    """sessions that keep every condition, on admitted lists of every kind, many of them to the brim, have each cell sent in its window"""
+    """sessions that keep every condition, on admitted lists of every kind, many of them to the brim, have each cell sent in its window, and taken if there are places enough"""
     seed = random.randrange(10**6)
     rng = random.Random(seed)
     makers = [lists.brim_list] * 36 + [lists.tight_list] * 16 + [lists.late_list, lists.early_list, lists.any_list, lists.light_list, crowded_list] * 9
@@ -83,6 +83,8 @@ def none_missed():
             fail('on %r, seed %d, arrivals %s: as it is made or answered, the session breaks: %s' % (made, seed, arriving, name))
         if outcome.missed or outcome.late():
             fail('on %r, seed %d, arrivals %s: %d cells told to be missed, %d late or wrong' % (made, seed, arriving, outcome.missed, outcome.late()))
+        if any(has_room(declaration) and outcome.offered[flow] != outcome.accepted[flow] for flow, declaration in enumerate(made)):
+            fail('on %r, seed %d, arrivals %s: a flow with places enough is refused' % (made, seed, arriving))
         found.update(kinds_of(made, arriving, outcome))
         cells += sum(map(len, outcome.accepted.values()))
     in_number('sessions of seed %d' % seed, found, LEAST_SESSIONS)

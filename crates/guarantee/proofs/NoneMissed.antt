@@ -21,7 +21,7 @@ use Rattle.promises_urgent.specs.Promised.{Windowed, Explained}
 use Rattle.promises.specs.Run.{run}
 use Rattle.promises.proofs.Promises.{promises}
 use Rattle.guarantee.specs.Arrivals.{Arrival, declared, WithinDeclarations, windowIn}
-use Rattle.guarantee.specs.Conditions.{arrivalOf, AsDeclared, Conditions, NoneMissed}
+use Rattle.guarantee.specs.Conditions.{arrivalOf, arrivals, AsDeclared, Conditions, NoneMissed}
 use Rattle.guarantee.proofs.Kept.{not-overloaded}
 use Rattle.guarantee.proofs.Calls.{EverySlot, every-slot, missed-more, OfOpening, openings}
 
@@ -57,7 +57,7 @@ module _ (ds : List Declaration) (fits : Fits ds) (enough : Keeps ds) (h : Cells
         (each-both _ (λ (a : Cell). isMissed h a ≡ true → Overloaded (windows h) (h .usable) (windowOf a)) (h .accepted) n why)
 
 -- a cell of a declared flow with the deadline of an opening has the declared one
-full-of : (ds : List Declaration) (marks : List Mark) → Each (AsDeclared ds) marks → (a : Cell) → OfOpening marks a → a .flow < length ds → Full ds a
+pub full-of : (ds : List Declaration) (marks : List Mark) → Each (AsDeclared ds) marks → (a : Cell) → OfOpening marks a → a .flow < length ds → Full ds a
 full-of ds marks opened a o l =
     some-gives (λ (m : Mark). (m ≡ opens (a .flow) (a .deadline)) × AsDeclared ds m) (Full ds a) (λ m w. one m (w .0) (w .1)) marks
     (some-both (λ (m : Mark). m ≡ opens (a .flow) (a .deadline)) (AsDeclared ds) marks o opened)
@@ -65,7 +65,7 @@ full-of ds marks opened a o l =
     one : (m : Mark) → m ≡ opens (a .flow) (a .deadline) → AsDeclared ds m → Full ds a
     one m e w = (rw e at w) l
 
-pub all-full : (ds : List Declaration) (calls : List Call) → Conditions ds calls → Each (Full ds) (run calls .cells .accepted)
+all-full : (ds : List Declaration) (calls : List Call) → Conditions ds calls → Each (Full ds) (run calls .cells .accepted)
 all-full ds calls c =
     each-map (λ (a : Cell). OfOpening (run calls .cells .marks) a × (a .flow < length ds)) (Full ds)
     (λ a w. full-of ds (run calls .cells .marks) (c .opened) a (w .0) (w .1)) (run calls .cells .accepted)
@@ -81,6 +81,10 @@ G1 ds calls c =
         let fits = promises .A1 .admitted ds .0 (c .admitted) in
         none-missed ds (fits .0) (fits .1) (run calls .cells) (every-slot calls (c .turns)) (all-full ds calls c) (record { keep = c .keep; others = c .others })
         (promises .U3-windows calls) (promises .U6 calls)
+
+-- their windows are then the declared ones
+pub G1-windows : (ds : List Declaration) (calls : List Call) → Conditions ds calls → windows (run calls .cells) ≡ map (windowIn ds) (arrivals calls)
+G1-windows ds calls c = same-windows ds (run calls .cells .accepted) (all-full ds calls c)
 
 pub G1-ever : (ds : List Declaration) (xs ys : List Call) → Conditions ds (xs ++ ys) → NoneMissed (run xs .cells)
 G1-ever ds xs ys c =

@@ -20,6 +20,7 @@ use Rattle.places.proofs.Count.{count-map}
 use Rattle.places.proofs.Members.{each-map, each-both, each-counts}
 use Rattle.places.proofs.Tests.{and-told, eqb-self}
 use Rattle.link.specs.declared.Declaration.{Declaration}
+use Rattle.link.specs.Published.{Fits}
 use Rattle.station.specs.declared.Call.{Call}
 use Rattle.station.specs.declared.Call.the-variants.{OfferCell}
 use Rattle.station.specs.Answers.{refusalIn}
@@ -30,9 +31,9 @@ use Rattle.promises.specs.Promises.{groundsNoted}
 use Rattle.promises.specs.Run.{run, replyTo}
 use Rattle.promises.proofs.Promises.{promises}
 use Rattle.guarantee.specs.Arrivals.{Arrival, declared, arrivesIn, KeepsDeclaration}
-use Rattle.guarantee.specs.Conditions.{arrivalOf, arrivals, Conditions, withOne, HaveRoom}
-use Rattle.guarantee.proofs.Calls.{arrived}
-use Rattle.guarantee.proofs.NoneMissed.{Full, all-full}
+use Rattle.guarantee.specs.Conditions.{arrivalOf, arrivals, OpenedAsDeclared, withOne, HaveRoom}
+use Rattle.guarantee.proofs.Calls.{arrived, OfOpening, openings}
+use Rattle.guarantee.proofs.NoneMissed.{full-of}
 
 -- what is known of an accepted cell, if its flow is one with deadline D
 abbrev Known : Cells → ℕ → ℕ → Cell → Type 0
@@ -62,18 +63,21 @@ module _ (h : Cells) (flow D : ℕ) (long : 1 ≤ D) where
   one-more cells =
       rw (eqb-self flow, le-leb (h .slot + 1 - D) (h .slot) (omega arith), lt-ltb (h .slot) (h .slot + 1 - D + D) (omega arith)) (omega arith)
 
-module _ (ds : List Declaration) (calls : List Call) (c : Conditions ds calls) (flow : ℕ) where
+module _ (ds : List Declaration) (calls : List Call) (opened : OpenedAsDeclared ds calls) (flow : ℕ) (l : flow < length ds) where
   all-known : Each (Known (run calls .cells) flow (declared ds flow .deadline)) (run calls .cells .accepted)
   all-known =
-      each-map _ (Known (run calls .cells) flow (declared ds flow .deadline)) (λ a w. (w .0, (λ f. rw f at (w .1 .0)), w .1 .1 .0)) (run calls .cells .accepted)
+      each-map _ (Known (run calls .cells) flow (declared ds flow .deadline)) (λ a w. (w .0, (λ f. its-deadline a (w .1 .0) f), w .1 .1 .0)) (run calls .cells .accepted)
       (each-both (λ (a : Cell). a .arrival ≤ run calls .cells .slot) _ (run calls .cells .accepted) (arrived calls)
-      (each-both (Full ds) (λ (a : Cell). (a .last ≡ windowOf a .last) × (1 ≤ a .deadline)) (run calls .cells .accepted) (all-full ds calls c) (promises .U3-windows calls)))
+      (each-both (OfOpening (run calls .cells .marks)) (λ (a : Cell). (a .last ≡ windowOf a .last) × (1 ≤ a .deadline)) (run calls .cells .accepted) (openings calls)
+      (promises .U3-windows calls)))
+    where
+      its-deadline : (a : Cell) → OfOpening (run calls .cells .marks) a → a .flow ≡ flow → a .deadline ≡ declared ds flow .deadline
+      its-deadline a o f = rw f at (full-of ds (run calls .cells .marks) opened a o (rw f l))
 
-  fewer-wait : flow < length ds → KeepsDeclaration (declared ds flow) flow (withOne calls flow) → HaveRoom (declared ds flow)
-      → waitingIn (run calls .cells) flow < 16
-  fewer-wait l keeps room =
+  fewer-wait : Fits ds → KeepsDeclaration (declared ds flow) flow (withOne calls flow) → HaveRoom (declared ds flow) → waitingIn (run calls .cells) flow < 16
+  fewer-wait fits keeps room =
       let D = declared ds flow .deadline in
-      let long : 1 ≤ D = promises .A1 .admitted ds .0 (c .admitted) .0 .within flow l .2 .0 in
+      let long : 1 ≤ D = fits .within flow l .2 .0 in
       omega (
         arith,
         few-wait (run calls .cells) flow D long all-known,
@@ -86,11 +90,11 @@ module _ (ds : List Declaration) (calls : List Call) (c : Conditions ds calls) (
 other : (r : Refusal) → (numberOf r ≡ 5 → ⊥) → r ≡ PlacesFull → ⊥
 other r n q = n (ap numberOf q)
 
-pub G1-places : (ds : List Declaration) (calls : List Call) → Conditions ds calls
+pub G1-places : (ds : List Declaration) (calls : List Call) → Fits ds → OpenedAsDeclared ds calls
     → (flow : ℕ) → flow < length ds → KeepsDeclaration (declared ds flow) flow (withOne calls flow) → HaveRoom (declared ds flow)
     → refusalIn (replyTo calls (OfferCell flow)) ≢ some PlacesFull
-G1-places ds calls c flow l keeps room e =
-    let free = lt-leb 16 (waitingIn (run calls .cells) flow) (fewer-wait ds calls c flow l keeps room) in
+G1-places ds calls fits opened flow l keeps room e =
+    let free = lt-leb 16 (waitingIn (run calls .cells) flow) (fewer-wait ds calls opened flow l fits keeps room) in
     let unheld : Unheld PlacesFull (groundsNoted (run calls) (OfferCell flow)) = (
       (λ q. absurd (other NoSuchFlow (omega arith) q)),
       ((λ q. absurd (other NotOpen (omega arith) q)), ((λ q. free), ((λ q. absurd (other SlotsUsedUp (omega arith) q)), tt))),

@@ -1,26 +1,33 @@
 -- The guarantee is not empty: calls that meet its conditions, and lists that are not admitted.
 use mathlib.Core.Path.{_≡_}
 use mathlib.Core.List.{List, [], _∷_, map}
+use mathlib.Core.Option.{none, some}
 use Prim.Native.Nat.{ℕ, _*_}
+use lib.ListN.{replicate}
+use Rattle.units.specs.declared.Refusal.the-variants.{PlacesFull}
 use Rattle.link.specs.Rate.{greatestOf}
 use Rattle.link.specs.Verdicts.{admitOf}
 use Rattle.link.specs.declared.Declaration.{Declaration}
 use Rattle.link.specs.declared.Verdict.the-variants.{FailsAt, Rate}
 use Rattle.station.specs.declared.Call.{Call}
-use Rattle.station.specs.declared.Call.the-variants.{OpenUrgent, CloseUrgent, OfferCell, OpenFair, OfferPacket, OpenTurn}
+use Rattle.station.specs.declared.Call.the-variants.{OpenUrgent, CloseUrgent, OfferCell, OpenFair, CloseFair, OfferPacket, Begin, End, OpenTurn}
+use Rattle.station.specs.Answers.{refusalIn}
 use Rattle.promises_urgent.specs.Cells.{Gone}
 use Rattle.promises_urgent.specs.Plans.{windowFrom}
-use Rattle.promises.specs.Run.{run}
-use Rattle.guarantee.specs.Arrivals.{Arrival, windowIn}
+use Rattle.promises.specs.Run.{run, replyTo}
+use Rattle.guarantee.specs.Arrivals.{Arrival, KeepsDeclaration, windowIn}
 use Rattle.guarantee.specs.Heaviest.{heaviest}
-use Rattle.guarantee.specs.Conditions.{arrivals, Conditions}
+use Rattle.guarantee.specs.Conditions.{arrivals, OpenedAsDeclared, Conditions, withOne, HaveRoom}
 
+-- a declaration by its numbers
 abbrev pub declaration : ℕ → ℕ → ℕ → Declaration
 declaration burst period deadline = record { burst = burst; period = period; deadline = deadline }
 
+-- a cell of a flow that arrives in a slot
 abbrev pub cell : ℕ → ℕ → Arrival
 cell flow slot = record { flow = flow; slot = slot }
 
+-- a cell of a flow, by its number, that is sent in a slot
 abbrev pub gone : ℕ → ℕ → ℕ → Gone
 gone flow number slot = record { flow = flow; number = number; slot = slot }
 
@@ -28,13 +35,14 @@ gone flow number slot = record { flow = flow; number = number; slot = slot }
 abbrev pub twoFlows : List Declaration
 twoFlows = declaration 2 4 3 ∷ declaration 1 2 2 ∷ []
 
--- both flows send all that they may. Besides, flow 1 is closed and opened again, flow 5 is opened and has no cell, a cell is refused, and
--- a packet is offered
+-- from slot 1 on both flows bring all that they may. Besides, flow 1 is closed and opened again, flow 5 is opened and has no cell, a cell is
+-- refused, and a packet comes and goes
 abbrev pub calls : List Call
 calls =
     OpenUrgent 0 3
     ∷ OpenUrgent 1 2
     ∷ OpenUrgent 5 9
+    ∷ OpenTurn
     ∷ OfferCell 0
     ∷ OfferCell 0
     ∷ OfferCell 1
@@ -48,12 +56,23 @@ calls =
     ∷ OfferCell 6
     ∷ OpenFair 0 1
     ∷ OfferPacket 0 100
+    ∷ Begin
+    ∷ End
+    ∷ CloseFair 0
     ∷ OfferCell 0
     ∷ OfferCell 1
     ∷ OpenTurn
     ∷ OpenTurn
     ∷ OpenTurn
     ∷ []
+
+-- sixteen cells at once, to go within sixteen slots
+abbrev pub sixteen : List Declaration
+sixteen = declaration 16 5040 16 ∷ []
+
+-- their flow is opened, and so many cells are offered
+abbrev pub offered : ℕ → List Call
+offered n = OpenUrgent 0 16 ∷ replicate n (OfferCell 0)
 
 -- case K
 abbrev pub caseK : List Declaration
@@ -63,11 +82,20 @@ caseK = declaration 1 2 1 ∷ declaration 1 2 1 ∷ []
 abbrev pub tooFast : List Declaration
 tooFast = declaration 1 2 1000 ∷ declaration 1 3 1000 ∷ declaration 1 6 1000 ∷ declaration 1 5040 1000 ∷ []
 
--- the calls meet the conditions, with a burst and later cells in flow 0 and one cell after another in flow 1; and all of them are sent
+-- the calls meet the conditions, with a burst and a later cell in flow 0 and one cell after another in flow 1; and all of them are sent
 pub record Met : Type 0 where
   pub conditions : Conditions twoFlows calls
-  pub cells : arrivals calls ≡ cell 1 4 ∷ cell 0 4 ∷ cell 1 2 ∷ cell 1 0 ∷ cell 0 0 ∷ cell 0 0 ∷ []
-  pub sent : run calls .cells .sent ≡ gone 0 2 5 ∷ gone 1 2 4 ∷ gone 1 1 3 ∷ gone 0 1 2 ∷ gone 0 0 1 ∷ gone 1 0 0 ∷ []
+  pub cells : arrivals calls ≡ cell 1 5 ∷ cell 0 5 ∷ cell 1 3 ∷ cell 1 1 ∷ cell 0 1 ∷ cell 0 1 ∷ []
+  pub sent : run calls .cells .sent ≡ gone 0 2 6 ∷ gone 1 2 5 ∷ gone 1 1 4 ∷ gone 0 1 3 ∷ gone 0 0 2 ∷ gone 1 0 1 ∷ []
+
+-- places for all that may come within a deadline, and no more: the sixteenth cell is taken, and a seventeenth, which is not within the
+-- declaration, is not
+pub record Sixteenth : Type 0 where
+  pub room : HaveRoom (declaration 16 5040 16)
+  pub opened : OpenedAsDeclared sixteen (offered 15)
+  pub keeps : KeepsDeclaration (declaration 16 5040 16) 0 (withOne (offered 15) 0)
+  pub taken : refusalIn (replyTo (offered 15) (OfferCell 0)) ≡ none
+  pub full : refusalIn (replyTo (offered 16) (OfferCell 0)) ≡ some PlacesFull
 
 -- case K fails at 1: two cells arrive in slot 0, and both have to go in slot 0; and the client's list is too fast
 pub record TooMuch : Type 0 where

@@ -16,11 +16,12 @@ use Rattle.station.specs.declared.Call.{Call}
 use Rattle.station.specs.declared.Call.the-variants.{OfferCell}
 use Rattle.station.specs.Answers.{refusalIn}
 use Rattle.promises_urgent.specs.Plans.{Sending, Plan}
+use Rattle.promises_urgent.specs.Cells.{windows}
 use Rattle.promises.specs.Run.{run, replyTo}
 use Rattle.guarantee.specs.Arrivals.{Arrival, declared, KeepsDeclaration, WithinDeclarations, windowIn}
 use Rattle.guarantee.specs.Heaviest.{heaviest}
-use Rattle.guarantee.specs.Conditions.{Conditions, NoneMissed, withOne, HaveRoom}
-use Rattle.guarantee.specs.Example.{Met, TooMuch}
+use Rattle.guarantee.specs.Conditions.{arrivals, OpenedAsDeclared, Conditions, NoneMissed, withOne, HaveRoom}
+use Rattle.guarantee.specs.Example.{Met, Sixteenth, TooMuch}
 use Rattle.guarantee.specs.Needed.{Needed}
 
 -- cells within the declarations that nobody could send: every plan, over whatever slots, sends fewer of them than there are
@@ -37,16 +38,21 @@ Sendable ds cells =
 pub record Guarantee : Type 0 where
   -- G1: under the conditions no cell is missed, whatever is called besides
   pub G1 : (ds : List Declaration) (calls : List Call) → Conditions ds calls → NoneMissed (run calls .cells)
-  -- ever: nor was any missed after some of the calls
+  -- ever: nor was any missed after the first so many of the calls
   pub G1-ever : (ds : List Declaration) (xs ys : List Call) → Conditions ds (xs ++ ys) → NoneMissed (run xs .cells)
-  -- under them a cell with which its flow still keeps its declaration finds a place, if the cells of a whole deadline have room
-  pub G1-places :
-      (ds : List Declaration) (calls : List Call) → Conditions ds calls
-      → (flow : ℕ) → flow < length ds → KeepsDeclaration (declared ds flow) flow (withOne calls flow) → HaveRoom (declared ds flow)
-      → refusalIn (replyTo calls (OfferCell flow)) ≢ some PlacesFull
+  -- the windows of the accepted cells are those that the declarations give them
+  pub G1-windows : (ds : List Declaration) (calls : List Call) → Conditions ds calls → windows (run calls .cells) ≡ map (windowIn ds) (arrivals calls)
   -- the conditions can be met, and none of them can be left out
   pub G1-met : Met
   pub G1-needed : Needed
+  -- whatever the other flows do and whichever turns are lost, a cell with which its flow keeps its declaration is not refused for want of a place,
+  -- if there are places for all that may come within its deadline
+  pub G1-places :
+      (ds : List Declaration) (calls : List Call) → Fits ds → OpenedAsDeclared ds calls
+      → (flow : ℕ) → flow < length ds → KeepsDeclaration (declared ds flow) flow (withOne calls flow) → HaveRoom (declared ds flow)
+      → refusalIn (replyTo calls (OfferCell flow)) ≢ some PlacesFull
+  -- as the sixteenth of sixteen is not
+  pub G1-sixteenth : Sixteenth
   -- G2: of a list that fails at t the heaviest cells by t are within the declarations, and nobody could send them all
   pub G2-fails : (ds : List Declaration) (t : ℕ) → admitOf ds ≡ FailsAt t → Beyond ds (heaviest ds t)
   -- and of a list of too high a rate those by 5,041 times its greatest deadline
