@@ -26,7 +26,7 @@ use Rattle.guarantee.proofs.Kept.{not-overloaded}
 use Rattle.guarantee.proofs.Calls.{EverySlot, every-slot, missed-more, OfOpening, openings}
 
 -- a cell has its flow's declared deadline
-abbrev pub Full : List Declaration → Cell → Type 0
+abbrev Full : List Declaration → Cell → Type 0
 Full ds a = a .deadline ≡ declared ds (a .flow) .deadline
 
 -- cells with the declared deadlines have the declared windows
@@ -57,7 +57,7 @@ module _ (ds : List Declaration) (fits : Fits ds) (enough : Keeps ds) (h : Cells
         (each-both _ (λ (a : Cell). isMissed h a ≡ true → Overloaded (windows h) (h .usable) (windowOf a)) (h .accepted) n why)
 
 -- a cell of a declared flow with the deadline of an opening has the declared one
-pub full-of : (ds : List Declaration) (marks : List Mark) → Each (AsDeclared ds) marks → (a : Cell) → OfOpening marks a → a .flow < length ds → Full ds a
+full-of : (ds : List Declaration) (marks : List Mark) → Each (AsDeclared ds) marks → (a : Cell) → OfOpening marks a → a .flow < length ds → Full ds a
 full-of ds marks opened a o l =
     some-gives (λ (m : Mark). (m ≡ opens (a .flow) (a .deadline)) × AsDeclared ds m) (Full ds a) (λ m w. one m (w .0) (w .1)) marks
     (some-both (λ (m : Mark). m ≡ opens (a .flow) (a .deadline)) (AsDeclared ds) marks o opened)

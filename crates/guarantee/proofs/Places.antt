@@ -9,18 +9,18 @@ use Prim.Native.Nat.{ℕ, suc, _+_, _-_, _≤_, _<_}
 use native.Mathlib.Omega.{arith}
 use borrow.Author.Tests.{eqb-true, eq-eqb, le-leb, lt-leb, lt-ltb}
 use lib.Dec.{eqb}
-use lib.ListN.{length}
 use Rattle.units.specs.Refusals.{numberOf}
 use Rattle.units.specs.declared.Refusal.{Refusal}
 use Rattle.units.specs.declared.Refusal.the-variants.{NoSuchFlow, NotOpen, PlacesFull, SlotsUsedUp}
 use Rattle.units.proofs.Refusals.{Unheld, not-given}
 use Rattle.places.specs.Places.{count}
 use Rattle.places.specs.Members.{Each}
+use Rattle.places.specs.Marks.{Mark, opens}
 use Rattle.places.proofs.Count.{count-map}
-use Rattle.places.proofs.Members.{each-map, each-both, each-counts}
+use Rattle.places.proofs.Members.{each-map, each-both, each-counts, some-gives, some-both}
 use Rattle.places.proofs.Tests.{and-told, eqb-self}
 use Rattle.link.specs.declared.Declaration.{Declaration}
-use Rattle.link.specs.Published.{Fits}
+use Rattle.link.specs.Published.{Within}
 use Rattle.station.specs.declared.Call.{Call}
 use Rattle.station.specs.declared.Call.the-variants.{OfferCell}
 use Rattle.station.specs.Answers.{refusalIn}
@@ -30,10 +30,9 @@ use Rattle.promises_urgent.proofs.Steps.{waits-told}
 use Rattle.promises.specs.Promises.{groundsNoted}
 use Rattle.promises.specs.Run.{run, replyTo}
 use Rattle.promises.proofs.Promises.{promises}
-use Rattle.guarantee.specs.Arrivals.{Arrival, declared, arrivesIn, KeepsDeclaration}
-use Rattle.guarantee.specs.Conditions.{arrivalOf, arrivals, OpenedAsDeclared, withOne, HaveRoom}
+use Rattle.guarantee.specs.Arrivals.{Arrival, arrivesIn, KeepsDeclaration}
+use Rattle.guarantee.specs.Conditions.{arrivalOf, arrivals, OpenedWith, withOne, HaveRoom}
 use Rattle.guarantee.proofs.Calls.{arrived, OfOpening, openings}
-use Rattle.guarantee.proofs.NoneMissed.{full-of}
 
 -- what is known of an accepted cell, if its flow is one with deadline D
 abbrev Known : Cells → ℕ → ℕ → Cell → Type 0
@@ -63,26 +62,29 @@ module _ (h : Cells) (flow D : ℕ) (long : 1 ≤ D) where
   one-more cells =
       rw (eqb-self flow, le-leb (h .slot + 1 - D) (h .slot) (omega arith), lt-ltb (h .slot) (h .slot + 1 - D + D) (omega arith)) (omega arith)
 
-module _ (ds : List Declaration) (calls : List Call) (opened : OpenedAsDeclared ds calls) (flow : ℕ) (l : flow < length ds) where
-  all-known : Each (Known (run calls .cells) flow (declared ds flow .deadline)) (run calls .cells .accepted)
+module _ (d : Declaration) (flow : ℕ) (calls : List Call) (opened : Each (OpenedWith flow (d .deadline)) (run calls .cells .marks)) where
+  its-deadline : (a : Cell) → OfOpening (run calls .cells .marks) a → a .flow ≡ flow → a .deadline ≡ d .deadline
+  its-deadline a o f =
+      some-gives (λ (m : Mark). (m ≡ opens (a .flow) (a .deadline)) × OpenedWith flow (d .deadline) m) (a .deadline ≡ d .deadline) (λ m w. one m (w .0) (w .1))
+      (run calls .cells .marks) (some-both (λ (m : Mark). m ≡ opens (a .flow) (a .deadline)) (OpenedWith flow (d .deadline)) (run calls .cells .marks) o opened)
+    where
+      one : (m : Mark) → m ≡ opens (a .flow) (a .deadline) → OpenedWith flow (d .deadline) m → a .deadline ≡ d .deadline
+      one m e w = (rw e at w) f
+
+  all-known : Each (Known (run calls .cells) flow (d .deadline)) (run calls .cells .accepted)
   all-known =
-      each-map _ (Known (run calls .cells) flow (declared ds flow .deadline)) (λ a w. (w .0, (λ f. its-deadline a (w .1 .0) f), w .1 .1 .0)) (run calls .cells .accepted)
+      each-map _ (Known (run calls .cells) flow (d .deadline)) (λ a w. (w .0, its-deadline a (w .1 .0), w .1 .1 .0)) (run calls .cells .accepted)
       (each-both (λ (a : Cell). a .arrival ≤ run calls .cells .slot) _ (run calls .cells .accepted) (arrived calls)
       (each-both (OfOpening (run calls .cells .marks)) (λ (a : Cell). (a .last ≡ windowOf a .last) × (1 ≤ a .deadline)) (run calls .cells .accepted) (openings calls)
       (promises .U3-windows calls)))
-    where
-      its-deadline : (a : Cell) → OfOpening (run calls .cells .marks) a → a .flow ≡ flow → a .deadline ≡ declared ds flow .deadline
-      its-deadline a o f = rw f at (full-of ds (run calls .cells .marks) opened a o (rw f l))
 
-  fewer-wait : Fits ds → KeepsDeclaration (declared ds flow) flow (withOne calls flow) → HaveRoom (declared ds flow) → waitingIn (run calls .cells) flow < 16
-  fewer-wait fits keeps room =
-      let D = declared ds flow .deadline in
-      let long : 1 ≤ D = fits .within flow l .2 .0 in
+  fewer-wait : 1 ≤ d .deadline → KeepsDeclaration d flow (withOne calls flow) → HaveRoom d → waitingIn (run calls .cells) flow < 16
+  fewer-wait long keeps room =
       omega (
         arith,
-        few-wait (run calls .cells) flow D long all-known,
-        one-more (run calls .cells) flow D long (arrivals calls),
-        keeps (run calls .cells .slot + 1 - D) D long,
+        few-wait (run calls .cells) flow (d .deadline) long all-known,
+        one-more (run calls .cells) flow (d .deadline) long (arrivals calls),
+        keeps (run calls .cells .slot + 1 - d .deadline) (d .deadline) long,
         room,
       )
 
@@ -90,11 +92,11 @@ module _ (ds : List Declaration) (calls : List Call) (opened : OpenedAsDeclared 
 other : (r : Refusal) → (numberOf r ≡ 5 → ⊥) → r ≡ PlacesFull → ⊥
 other r n q = n (ap numberOf q)
 
-pub G1-places : (ds : List Declaration) (calls : List Call) → Fits ds → OpenedAsDeclared ds calls
-    → (flow : ℕ) → flow < length ds → KeepsDeclaration (declared ds flow) flow (withOne calls flow) → HaveRoom (declared ds flow)
+pub G1-places : (d : Declaration) (flow : ℕ) (calls : List Call) → Within d → Each (OpenedWith flow (d .deadline)) (run calls .cells .marks)
+    → KeepsDeclaration d flow (withOne calls flow) → HaveRoom d
     → refusalIn (replyTo calls (OfferCell flow)) ≢ some PlacesFull
-G1-places ds calls fits opened flow l keeps room e =
-    let free = lt-leb 16 (waitingIn (run calls .cells) flow) (fewer-wait ds calls opened flow l fits keeps room) in
+G1-places d flow calls good opened keeps room e =
+    let free = lt-leb 16 (waitingIn (run calls .cells) flow) (fewer-wait d flow calls opened (good .2 .0) keeps room) in
     let unheld : Unheld PlacesFull (groundsNoted (run calls) (OfferCell flow)) = (
       (λ q. absurd (other NoSuchFlow (omega arith) q)),
       ((λ q. absurd (other NotOpen (omega arith) q)), ((λ q. free), ((λ q. absurd (other SlotsUsedUp (omega arith) q)), tt))),

@@ -54,10 +54,15 @@ pub record NoneMissed (h : Cells) : Type 0 where
   pub cells : Each (λ (a : Cell). isMissed h a ≡ false) (h .accepted)
   pub counts : h .missed ≡ 0
 
+-- an opening of this flow has this deadline
+abbrev pub OpenedWith : ℕ → ℕ → Mark → Type 0
+OpenedWith flow deadline (opens f number) = f ≡ flow → number ≡ deadline
+OpenedWith flow deadline (closes f) = Unit {0}
+
 -- one cell more of a flow, offered now
 abbrev pub withOne : List Call → ℕ → List Arrival
 withOne calls flow = record { flow = flow; slot = run calls .cells .slot } ∷ arrivals calls
 
--- the cells of a flow that can wait at once, which all arrive within a deadline, are no more than its places
+-- a flow that keeps a declaration has places for all its cells that can wait at once: they arrive within a deadline
 abbrev pub HaveRoom : Declaration → Type 0
 HaveRoom d = d .burst + (d .deadline - 1) / d .period ≤ 16

@@ -5,6 +5,7 @@ use mathlib.Core.Option.{none, some}
 use Prim.Native.Nat.{ℕ, _*_}
 use lib.ListN.{replicate}
 use Rattle.units.specs.declared.Refusal.the-variants.{PlacesFull}
+use Rattle.places.specs.Members.{Each}
 use Rattle.link.specs.Rate.{greatestOf}
 use Rattle.link.specs.Verdicts.{admitOf}
 use Rattle.link.specs.declared.Declaration.{Declaration}
@@ -17,7 +18,7 @@ use Rattle.promises_urgent.specs.Plans.{windowFrom}
 use Rattle.promises.specs.Run.{run, replyTo}
 use Rattle.guarantee.specs.Arrivals.{Arrival, KeepsDeclaration, windowIn}
 use Rattle.guarantee.specs.Heaviest.{heaviest}
-use Rattle.guarantee.specs.Conditions.{arrivals, OpenedAsDeclared, Conditions, withOne, HaveRoom}
+use Rattle.guarantee.specs.Conditions.{arrivals, Conditions, OpenedWith, withOne, HaveRoom}
 
 -- a declaration by its numbers
 abbrev pub declaration : ℕ → ℕ → ℕ → Declaration
@@ -66,11 +67,7 @@ calls =
     ∷ OpenTurn
     ∷ []
 
--- sixteen cells at once, to go within sixteen slots
-abbrev pub sixteen : List Declaration
-sixteen = declaration 16 5040 16 ∷ []
-
--- their flow is opened, and so many cells are offered
+-- a flow is opened, of which sixteen cells may come at once, and so many are offered
 abbrev pub offered : ℕ → List Call
 offered n = OpenUrgent 0 16 ∷ replicate n (OfferCell 0)
 
@@ -92,7 +89,7 @@ pub record Met : Type 0 where
 -- declaration, is not
 pub record Sixteenth : Type 0 where
   pub room : HaveRoom (declaration 16 5040 16)
-  pub opened : OpenedAsDeclared sixteen (offered 15)
+  pub opened : Each (OpenedWith 0 16) (run (offered 15) .cells .marks)
   pub keeps : KeepsDeclaration (declaration 16 5040 16) 0 (withOne (offered 15) 0)
   pub taken : refusalIn (replyTo (offered 15) (OfferCell 0)) ≡ none
   pub full : refusalIn (replyTo (offered 16) (OfferCell 0)) ≡ some PlacesFull

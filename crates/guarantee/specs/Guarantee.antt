@@ -7,9 +7,10 @@ use mathlib.Core.Option.{some}
 use Prim.Native.Nat.{ℕ, _*_, _<_}
 use lib.ListN.{length}
 use Rattle.units.specs.declared.Refusal.the-variants.{PlacesFull}
+use Rattle.places.specs.Members.{Each}
 use Rattle.link.specs.Rate.{greatestOf}
 use Rattle.link.specs.Verdicts.{admitOf}
-use Rattle.link.specs.Published.{Fits}
+use Rattle.link.specs.Published.{Fits, Within}
 use Rattle.link.specs.declared.Declaration.{Declaration}
 use Rattle.link.specs.declared.Verdict.the-variants.{Admitted, FailsAt, Rate}
 use Rattle.station.specs.declared.Call.{Call}
@@ -18,9 +19,9 @@ use Rattle.station.specs.Answers.{refusalIn}
 use Rattle.promises_urgent.specs.Plans.{Sending, Plan}
 use Rattle.promises_urgent.specs.Cells.{windows}
 use Rattle.promises.specs.Run.{run, replyTo}
-use Rattle.guarantee.specs.Arrivals.{Arrival, declared, KeepsDeclaration, WithinDeclarations, windowIn}
+use Rattle.guarantee.specs.Arrivals.{Arrival, KeepsDeclaration, WithinDeclarations, windowIn}
 use Rattle.guarantee.specs.Heaviest.{heaviest}
-use Rattle.guarantee.specs.Conditions.{arrivals, OpenedAsDeclared, Conditions, NoneMissed, withOne, HaveRoom}
+use Rattle.guarantee.specs.Conditions.{arrivals, Conditions, NoneMissed, OpenedWith, withOne, HaveRoom}
 use Rattle.guarantee.specs.Example.{Met, Sixteenth, TooMuch}
 use Rattle.guarantee.specs.Needed.{Needed}
 
@@ -45,11 +46,11 @@ pub record Guarantee : Type 0 where
   -- the conditions can be met, and none of them can be left out
   pub G1-met : Met
   pub G1-needed : Needed
-  -- whatever the other flows do and whichever turns are lost, a cell with which its flow keeps its declaration is not refused for want of a place,
-  -- if there are places for all that may come within its deadline
+  -- of one flow and its declaration, whatever other flows do and whichever turns are lost: a cell with which the flow keeps it is not refused for
+  -- want of a place, if there are places for all that may come within its deadline
   pub G1-places :
-      (ds : List Declaration) (calls : List Call) → Fits ds → OpenedAsDeclared ds calls
-      → (flow : ℕ) → flow < length ds → KeepsDeclaration (declared ds flow) flow (withOne calls flow) → HaveRoom (declared ds flow)
+      (d : Declaration) (flow : ℕ) (calls : List Call) → Within d → Each (OpenedWith flow (d .deadline)) (run calls .cells .marks)
+      → KeepsDeclaration d flow (withOne calls flow) → HaveRoom d
       → refusalIn (replyTo calls (OfferCell flow)) ≢ some PlacesFull
   -- as the sixteenth of sixteen is not
   pub G1-sixteenth : Sixteenth
