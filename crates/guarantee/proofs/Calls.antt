@@ -1,5 +1,5 @@
 -- What every list of calls keeps, call by call: a call adds nothing, a mark, an accepted cell or a turn to what is noted. So where no turn was lost
--- every slot was open; each accepted cell has the deadline of an opening of its flow; and the missed counts never fall.
+-- every slot was open; the missed counts never fall; each accepted cell has the deadline of an opening of its flow, and has not arrived after now.
 use mathlib.Core.Path.{_≡_, refl, sym, ap, _∙_}
 use mathlib.Core.Logic.{inr, _≢_}
 use mathlib.Core.Bool.{Bool, true, false, true≢false}

@@ -1,4 +1,4 @@
--- What a count says of a list's members.
+-- What a count says of a list's members, and what holds of the members of joined, repeated and mapped lists.
 use mathlib.Core.Path.{_≡_, refl}
 use mathlib.Core.Logic.{inl, inr}
 use mathlib.Core.Bool.{Bool, true, false}
