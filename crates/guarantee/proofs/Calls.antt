@@ -12,7 +12,7 @@ use borrow.Author.Tests.{not-false}
 use Rattle.units.proofs.Refusals.{none-holds}
 use Rattle.places.specs.Members.{Each, Some}
 use Rattle.places.specs.Marks.{Mark, opens, closes, openIn}
-use Rattle.places.proofs.Members.{each-map, each-first, each-last}
+use Rattle.places.proofs.Members.{each-map, each-first, each-last, some-gives, some-both}
 use Rattle.places.proofs.Marks.{force-told}
 use Rattle.urgent.specs.declared.Answer.{Answer}
 use Rattle.urgent.specs.declared.Answer.the-variants.{Refused, Opened, Closed, Accepted, Sent, Idle}
@@ -161,6 +161,12 @@ opening-step xs call (turn usable sent missed lost) e = e
 pub openings : (calls : List Call) → Each (OfOpening (run calls .cells .marks)) (run calls .cells .accepted)
 unfolding runFrom
 openings = by-calls (λ xs. Each (OfOpening (run xs .cells .marks)) (run xs .cells .accepted)) tt (λ xs call earlier. opening-step xs call (one-more xs call) earlier)
+
+-- so what holds of every opening and closing holds of an opening with the cell's flow and deadline
+pub of-opening : (Q : Mark → Type 0) (marks : List Mark) → Each Q marks → (a : Cell) → OfOpening marks a → Q (opens (a .flow) (a .deadline))
+of-opening Q marks each a o =
+    some-gives (λ (m : Mark). (m ≡ opens (a .flow) (a .deadline)) × Q m) (Q (opens (a .flow) (a .deadline))) (λ m w. rw (w .0) at (w .1)) marks
+    (some-both (λ (m : Mark). m ≡ opens (a .flow) (a .deadline)) Q marks o each)
 
 -- ---- no cell arrives after the slot that is next
 abbrev pub Arrived : Cells → Type 0

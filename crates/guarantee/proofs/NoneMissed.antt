@@ -9,8 +9,7 @@ use native.Mathlib.Omega.{arith}
 use borrow.Author.Tests.{ltb-true}
 use lib.ListN.{length}
 use Rattle.places.specs.Members.{Each}
-use Rattle.places.specs.Marks.{Mark, opens}
-use Rattle.places.proofs.Members.{none-passes, none-counted, each-map, each-both, each-made, some-gives, some-both}
+use Rattle.places.proofs.Members.{none-passes, none-counted, each-map, each-both, each-made}
 use Rattle.places.proofs.Tests.{and-told}
 use Rattle.link.specs.declared.Declaration.{Declaration}
 use Rattle.link.specs.Published.{Fits, Keeps}
@@ -23,7 +22,7 @@ use Rattle.promises.proofs.Promises.{promises}
 use Rattle.guarantee.specs.Arrivals.{Arrival, declared, WithinDeclarations, windowIn}
 use Rattle.guarantee.specs.Conditions.{arrivalOf, arrivals, AsDeclared, Conditions, NoneMissed}
 use Rattle.guarantee.proofs.Kept.{not-overloaded}
-use Rattle.guarantee.proofs.Calls.{EverySlot, every-slot, missed-more, OfOpening, openings}
+use Rattle.guarantee.proofs.Calls.{EverySlot, every-slot, missed-more, OfOpening, openings, of-opening}
 
 -- a cell has its flow's declared deadline
 abbrev Full : List Declaration → Cell → Type 0
@@ -56,19 +55,11 @@ module _ (ds : List Declaration) (fits : Fits ds) (enough : Keeps ds) (h : Cells
         each-map _ (λ (a : Cell). isMissed h a ≡ false) (λ a w. not-missed a (w .0) (w .1)) (h .accepted)
         (each-both _ (λ (a : Cell). isMissed h a ≡ true → Overloaded (windows h) (h .usable) (windowOf a)) (h .accepted) n why)
 
--- a cell of a declared flow with the deadline of an opening has the declared one
-full-of : (ds : List Declaration) (marks : List Mark) → Each (AsDeclared ds) marks → (a : Cell) → OfOpening marks a → a .flow < length ds → Full ds a
-full-of ds marks opened a o l =
-    some-gives (λ (m : Mark). (m ≡ opens (a .flow) (a .deadline)) × AsDeclared ds m) (Full ds a) (λ m w. one m (w .0) (w .1)) marks
-    (some-both (λ (m : Mark). m ≡ opens (a .flow) (a .deadline)) (AsDeclared ds) marks o opened)
-  where
-    one : (m : Mark) → m ≡ opens (a .flow) (a .deadline) → AsDeclared ds m → Full ds a
-    one m e w = (rw e at w) l
-
+-- each accepted cell is of a declared flow, with the deadline of an opening: the declared one
 all-full : (ds : List Declaration) (calls : List Call) → Conditions ds calls → Each (Full ds) (run calls .cells .accepted)
 all-full ds calls c =
     each-map (λ (a : Cell). OfOpening (run calls .cells .marks) a × (a .flow < length ds)) (Full ds)
-    (λ a w. full-of ds (run calls .cells .marks) (c .opened) a (w .0) (w .1)) (run calls .cells .accepted)
+    (λ a w. of-opening (AsDeclared ds) (run calls .cells .marks) (c .opened) a (w .0) (w .1)) (run calls .cells .accepted)
     (each-both (OfOpening (run calls .cells .marks)) (λ (a : Cell). a .flow < length ds) (run calls .cells .accepted) (openings calls)
     (each-made arrivalOf (λ (a : Arrival). a .flow < length ds) (run calls .cells .accepted) (c .others)))
 

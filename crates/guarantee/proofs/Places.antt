@@ -15,9 +15,8 @@ use Rattle.units.specs.declared.Refusal.the-variants.{NoSuchFlow, NotOpen, Plac
 use Rattle.units.proofs.Refusals.{Unheld, not-given}
 use Rattle.places.specs.Places.{count}
 use Rattle.places.specs.Members.{Each}
-use Rattle.places.specs.Marks.{Mark, opens}
 use Rattle.places.proofs.Count.{count-map}
-use Rattle.places.proofs.Members.{each-map, each-both, each-counts, some-gives, some-both}
+use Rattle.places.proofs.Members.{each-map, each-both, each-counts}
 use Rattle.places.proofs.Tests.{and-told, eqb-self}
 use Rattle.link.specs.declared.Declaration.{Declaration}
 use Rattle.link.specs.Published.{Within}
@@ -32,7 +31,7 @@ use Rattle.promises.specs.Run.{run, replyTo}
 use Rattle.promises.proofs.Promises.{promises}
 use Rattle.guarantee.specs.Arrivals.{Arrival, arrivesIn, KeepsDeclaration}
 use Rattle.guarantee.specs.Conditions.{arrivalOf, arrivals, OpenedWith, withOne, HaveRoom}
-use Rattle.guarantee.proofs.Calls.{arrived, OfOpening, openings}
+use Rattle.guarantee.proofs.Calls.{arrived, OfOpening, openings, of-opening}
 
 -- what is known of an accepted cell, if its flow is one with deadline D
 abbrev Known : Cells → ℕ → ℕ → Cell → Type 0
@@ -63,17 +62,9 @@ module _ (h : Cells) (flow D : ℕ) (long : 1 ≤ D) where
       rw (eqb-self flow, le-leb (h .slot + 1 - D) (h .slot) (omega arith), lt-ltb (h .slot) (h .slot + 1 - D + D) (omega arith)) (omega arith)
 
 module _ (d : Declaration) (flow : ℕ) (calls : List Call) (opened : Each (OpenedWith flow (d .deadline)) (run calls .cells .marks)) where
-  its-deadline : (a : Cell) → OfOpening (run calls .cells .marks) a → a .flow ≡ flow → a .deadline ≡ d .deadline
-  its-deadline a o f =
-      some-gives (λ (m : Mark). (m ≡ opens (a .flow) (a .deadline)) × OpenedWith flow (d .deadline) m) (a .deadline ≡ d .deadline) (λ m w. one m (w .0) (w .1))
-      (run calls .cells .marks) (some-both (λ (m : Mark). m ≡ opens (a .flow) (a .deadline)) (OpenedWith flow (d .deadline)) (run calls .cells .marks) o opened)
-    where
-      one : (m : Mark) → m ≡ opens (a .flow) (a .deadline) → OpenedWith flow (d .deadline) m → a .deadline ≡ d .deadline
-      one m e w = (rw e at w) f
-
   all-known : Each (Known (run calls .cells) flow (d .deadline)) (run calls .cells .accepted)
   all-known =
-      each-map _ (Known (run calls .cells) flow (d .deadline)) (λ a w. (w .0, its-deadline a (w .1 .0), w .1 .1 .0)) (run calls .cells .accepted)
+      each-map _ (Known (run calls .cells) flow (d .deadline)) (λ a w. (w .0, of-opening (OpenedWith flow (d .deadline)) (run calls .cells .marks) opened a (w .1 .0), w .1 .1 .0)) (run calls .cells .accepted)
       (each-both (λ (a : Cell). a .arrival ≤ run calls .cells .slot) _ (run calls .cells .accepted) (arrived calls)
       (each-both (OfOpening (run calls .cells .marks)) (λ (a : Cell). (a .last ≡ windowOf a .last) × (1 ≤ a .deadline)) (run calls .cells .accepted) (openings calls)
       (promises .U3-windows calls)))
