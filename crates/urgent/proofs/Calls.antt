@@ -7,7 +7,7 @@ use native.Mathlib.Omega.{arith}
 use borrow.Author.Tests.{lt-ltb, le-ltb, le-leb, lt-leb}
 use lib.Dec.{ltb, leb}
 use lib.ListN.{length, set}
-use Rattle.units.specs.Limits.{placeCount, slotLimit, badDeadline}
+use Rattle.units.specs.Limits.{placeCount, slotLimit, outsideOf, badDeadline}
 use Rattle.units.specs.Refusals.{firstOf}
 use Rattle.units.specs.declared.Slot.{Slot}
 use Rattle.units.specs.declared.Refusal.the-variants.{NoSuchFlow, NotOpen, AlreadyOpen, PlacesFull, SlotsUsedUp, FlowInUse, BadDeadline}
@@ -57,34 +57,39 @@ module _ (u : Urgent) (flow : ℕ) where
     unfolding closeOf firstOf
     close-ok o w = rw (le-ltb 15 flow h, o, le-ltb 0 (waitingOf u flow) w)
 
-module _ (u : Urgent) (flow : ℕ) where
-  pub offer-1 : 15 < flow → refused u NoSuchFlow ≡ offerOf u flow
+module _ (u : Urgent) (flow deadline : ℕ) where
+  pub offer-1 : 15 < flow → refused u NoSuchFlow ≡ offerOf u flow deadline
   unfolding offerOf firstOf
   offer-1 h = rw (lt-ltb 15 flow h)
 
   module _ (h : flow ≤ 15) where
-    pub offer-2 : not (flowAt u flow .opened) ≡ true → refused u NotOpen ≡ offerOf u flow
+    pub offer-2 : not (flowAt u flow .opened) ≡ true → refused u NotOpen ≡ offerOf u flow deadline
     unfolding offerOf firstOf
     offer-2 o = rw (le-ltb 15 flow h, o)
 
+    pub offer-14 : not (flowAt u flow .opened) ≡ false → outsideOf deadline (flowAt u flow .deadline) ≡ true → refused u BadDeadline ≡ offerOf u flow deadline
+    unfolding offerOf firstOf
+    offer-14 o d = rw (le-ltb 15 flow h, o, d)
+
     -- k is the flow's first free place
-    module _ (o : not (flowAt u flow .opened) ≡ false) (l : length (u .cells) ≡ 256) (k : ℕ) (e : k ≡ firstFree isHeld (placesOf placeCount flow (u .cells))) where
+    module _ (o : not (flowAt u flow .opened) ≡ false) (d : outsideOf deadline (flowAt u flow .deadline) ≡ false)
+        (l : length (u .cells) ≡ 256) (k : ℕ) (e : k ≡ firstFree isHeld (placesOf placeCount flow (u .cells))) where
       full : 16 ≤ k → 16 ≤ count isHeld (placesOf placeCount flow (u .cells))
       full = part-full isHeld freeCell (u .cells) (flow * 16) 16 (omega arith) k e
 
       room : k < 16 → count isHeld (placesOf placeCount flow (u .cells)) < 16
       room = part-room isHeld freeCell (u .cells) (flow * 16) 16 (omega arith) k e
 
-      pub offer-5 : 16 ≤ k → refused u PlacesFull ≡ offerOf u flow
+      pub offer-5 : 16 ≤ k → refused u PlacesFull ≡ offerOf u flow deadline
       unfolding offerOf firstOf
-      offer-5 f = rw (le-ltb 15 flow h, o, le-leb 16 (count isHeld (placesOf placeCount flow (u .cells))) (full f))
+      offer-5 f = rw (le-ltb 15 flow h, o, d, le-leb 16 (count isHeld (placesOf placeCount flow (u .cells))) (full f))
 
-      module _ (f : k < 16) (late : Bool) (t : late ≡ ltb slotLimit (u .now .0 + flowAt u flow .deadline)) where
-        pub offer-7 : late ≡ true → refused u SlotsUsedUp ≡ offerOf u flow
+      module _ (f : k < 16) (late : Bool) (t : late ≡ ltb slotLimit (u .now .0 + deadline)) where
+        pub offer-7 : late ≡ true → refused u SlotsUsedUp ≡ offerOf u flow deadline
         unfolding offerOf firstOf
-        offer-7 p = rw (le-ltb 15 flow h, o, lt-leb 16 (count isHeld (placesOf placeCount flow (u .cells))) (room f), ← t, p)
+        offer-7 p = rw (le-ltb 15 flow h, o, d, lt-leb 16 (count isHeld (placesOf placeCount flow (u .cells))) (room f), ← t, p)
 
-        pub offer-ok : late ≡ false → (last : Slot) (next : ℕ) → last ≡ record { 0 = u .now .0 + flowAt u flow .deadline - 1 } → next ≡ (flowAt u flow .next + 1) % 2 ^ 64
+        pub offer-ok : late ≡ false → (last : Slot) (next : ℕ) → last ≡ record { 0 = u .now .0 + deadline - 1 } → next ≡ (flowAt u flow .next + 1) % 2 ^ 64
             → record {
               lane = record {
                 now = u .now;
@@ -92,10 +97,10 @@ module _ (u : Urgent) (flow : ℕ) where
                 cells = set (u .cells) (flow * 16 + k) (record { held = true; number = flowAt u flow .next; last = last });
               };
               answer = Accepted (flowAt u flow .next) last;
-            } ≡ offerOf u flow
+            } ≡ offerOf u flow deadline
         unfolding offerOf firstOf
         offer-ok p last next a b =
-            rw (le-ltb 15 flow h, o, lt-leb 16 (count isHeld (placesOf placeCount flow (u .cells))) (room f), ← t, p, ← e, a, b)
+            rw (le-ltb 15 flow h, o, d, lt-leb 16 (count isHeld (placesOf placeCount flow (u .cells))) (room f), ← t, p, ← e, a, b)
 
 module _ (u : Urgent) (usable : Bool) where
   pub turn-7 : leb slotLimit (u .now .0) ≡ true → refused u SlotsUsedUp ≡ turnOf u usable

@@ -3,7 +3,7 @@ use mathlib.Core.Path.{_≡_}
 use mathlib.Core.Bool.{Bool, true, false}
 use Prim.Native.Nat.{ℕ, _≤_, _<_}
 use borrow.Author.Tests.{ltb-false, leb-false, not-false}
-use Rattle.units.specs.Limits.{slotLimit, badDeadline}
+use Rattle.units.specs.Limits.{slotLimit, outsideOf, badDeadline}
 use Rattle.units.specs.declared.Refusal.{Refusal}
 use Rattle.units.proofs.Refusals.{first-cases}
 use Rattle.urgent.specs.declared.Urgent.{Urgent}
@@ -22,11 +22,13 @@ module _ (u : Urgent) (P : Done → Type 0) (no-way : (r : Refusal) → P (refus
   close-cases flow ok =
       first-cases (refused u) P no-way (closingGrounds u flow) (closed u flow) (λ h. ok (ltb-false 15 flow (h .0)) (ltb-false 0 (waitingOf u flow) (h .1 .1 .0)))
 
-  pub offer-cases : (flow : ℕ) → (flow ≤ 15 → flowAt u flow .opened ≡ true → waitingOf u flow < 16 → P (accepted u flow)) → P (offerOf u flow)
+  pub offer-cases : (flow deadline : ℕ)
+      → (flow ≤ 15 → flowAt u flow .opened ≡ true → outsideOf deadline (flowAt u flow .deadline) ≡ false → waitingOf u flow < 16 → P (accepted u flow deadline))
+      → P (offerOf u flow deadline)
   unfolding offerOf
-  offer-cases flow ok =
-      first-cases (refused u) P no-way (offeringGrounds u flow) (accepted u flow)
-      (λ h. ok (ltb-false 15 flow (h .0)) (not-false (flowAt u flow .opened) (h .1 .0)) (leb-false 16 (waitingOf u flow) (h .1 .1 .0)))
+  offer-cases flow deadline ok =
+      first-cases (refused u) P no-way (offeringGrounds u flow deadline) (accepted u flow deadline)
+      (λ h. ok (ltb-false 15 flow (h .0)) (not-false (flowAt u flow .opened) (h .1 .0)) (h .1 .1 .0) (leb-false 16 (waitingOf u flow) (h .1 .1 .1 .0)))
 
   pub turn-cases : (usable : Bool) → (u .now .0 < slotLimit → P (turned u (chosen u usable))) → P (turnOf u usable)
   unfolding turnOf

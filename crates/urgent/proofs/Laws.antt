@@ -88,7 +88,7 @@ module _ (u : Urgent) where
       record {
         opening = λ flow deadline. first (firstOf (openingGrounds u flow deadline)) (opened u flow deadline) refl;
         closing = λ flow. first (firstOf (closingGrounds u flow)) (closed u flow) refl;
-        offering = λ flow. first (firstOf (offeringGrounds u flow)) (accepted u flow) refl;
+        offering = λ flow deadline. first (firstOf (offeringGrounds u flow deadline)) (accepted u flow deadline) refl;
         turning = λ usable. first (firstOf (turnGrounds u)) (turned u (chosen u usable)) (turned-taken (chosen u usable));
       }
 
@@ -98,6 +98,6 @@ module _ (u : Urgent) where
       record {
         opening = λ flow deadline. same (firstOf (openingGrounds u flow deadline)) (opened u flow deadline) refl r;
         closing = λ flow. same (firstOf (closingGrounds u flow)) (closed u flow) refl r;
-        offering = λ flow. same (firstOf (offeringGrounds u flow)) (accepted u flow) refl r;
+        offering = λ flow deadline. same (firstOf (offeringGrounds u flow deadline)) (accepted u flow deadline) refl r;
         turning = λ usable. same (firstOf (turnGrounds u)) (turned u (chosen u usable)) (turned-taken (chosen u usable)) r;
       }

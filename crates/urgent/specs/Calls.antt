@@ -45,13 +45,13 @@ closed u flow =
 unfoldable pub closeOf : Urgent → ℕ → Done
 closeOf u flow = unless (refused u) (firstOf (closingGrounds u flow)) (closed u flow)
 
--- the last slot of the window of a cell offered now, which is now to now + deadline - 1
+-- the last slot of the window of a cell offered now, which is now to now + deadline - 1 by the cell's own deadline
 abbrev pub lastSlot : Urgent → ℕ → ℕ
-lastSlot u flow = u .now .0 + flowAt u flow .deadline - 1
+lastSlot u deadline = u .now .0 + deadline - 1
 
 -- offering: the cell takes the flow's first free place and its next number
-abbrev pub accepted : Urgent → ℕ → Done
-accepted u flow =
+abbrev pub accepted : Urgent → ℕ → ℕ → Done
+accepted u flow deadline =
     record {
       lane =
           record {
@@ -61,14 +61,14 @@ accepted u flow =
                 (record { opened = true; deadline = flowAt u flow .deadline; next = (flowAt u flow .next + 1) % 2 ^ 64 });
             cells =
                 set (u .cells) (flow * placeCount + firstFree isHeld (placesOf placeCount flow (u .cells)))
-                (record { held = true; number = flowAt u flow .next; last = record { 0 = lastSlot u flow } });
+                (record { held = true; number = flowAt u flow .next; last = record { 0 = lastSlot u deadline } });
           };
-      answer = Accepted (flowAt u flow .next) (record { 0 = lastSlot u flow });
+      answer = Accepted (flowAt u flow .next) (record { 0 = lastSlot u deadline });
     }
 
--- what offering a cell of a flow gives
-unfoldable pub offerOf : Urgent → ℕ → Done
-offerOf u flow = unless (refused u) (firstOf (offeringGrounds u flow)) (accepted u flow)
+-- what offering a cell of a flow with a deadline of its own gives
+unfoldable pub offerOf : Urgent → ℕ → ℕ → Done
+offerOf u flow deadline = unless (refused u) (firstOf (offeringGrounds u flow deadline)) (accepted u flow deadline)
 
 -- a turn's end: the waiting cells whose last slot is now are dropped and counted as missed, and now moves by one
 abbrev pub ended : Urgent → List Cell → (ℕ → Answer) → Done

@@ -4,7 +4,7 @@ use mathlib.Core.List.{List, [], _∷_}
 use Prim.Native.Nat.{ℕ, _+_}
 use lib.Dec.{ltb, leb, eqb}
 use lib.ListN.{getD, replicate}
-use Rattle.units.specs.Limits.{placeCount, slotLimit, noSuchFlow, badDeadline}
+use Rattle.units.specs.Limits.{placeCount, slotLimit, noSuchFlow, outsideOf, badDeadline}
 use Rattle.units.specs.Refusals.{Ground}
 use Rattle.units.specs.declared.Slot.{Slot}
 use Rattle.units.specs.declared.Refusal.the-variants.{NoSuchFlow, NotOpen, AlreadyOpen, PlacesFull, SlotsUsedUp, FlowInUse, BadDeadline}
@@ -53,12 +53,14 @@ abbrev pub closingGrounds : Urgent → ℕ → List Ground
 closingGrounds u flow =
     (NoSuchFlow, noSuchFlow flow) ∷ (NotOpen, not (flowAt u flow .opened)) ∷ (FlowInUse, ltb 0 (waitingOf u flow)) ∷ []
 
-abbrev pub offeringGrounds : Urgent → ℕ → List Ground
-offeringGrounds u flow =
+-- a cell's deadline is 1 to that of its flow; only then places and slots are looked at
+abbrev pub offeringGrounds : Urgent → ℕ → ℕ → List Ground
+offeringGrounds u flow deadline =
     (NoSuchFlow, noSuchFlow flow)
     ∷ (NotOpen, not (flowAt u flow .opened))
+    ∷ (BadDeadline, outsideOf deadline (flowAt u flow .deadline))
     ∷ (PlacesFull, leb placeCount (waitingOf u flow))
-    ∷ (SlotsUsedUp, ltb slotLimit (u .now .0 + flowAt u flow .deadline))
+    ∷ (SlotsUsedUp, ltb slotLimit (u .now .0 + deadline))
     ∷ []
 
 abbrev pub turnGrounds : Urgent → List Ground

@@ -45,12 +45,12 @@ pub record SendsFirst (u : Urgent) : Type 0 where
 pub record RefusedFirst (u : Urgent) : Type 0 where
   pub opening : (flow deadline : ℕ) → refusalIn (openOf u flow deadline .answer) ≡ firstOf (openingGrounds u flow deadline)
   pub closing : (flow : ℕ) → refusalIn (closeOf u flow .answer) ≡ firstOf (closingGrounds u flow)
-  pub offering : (flow : ℕ) → refusalIn (offerOf u flow .answer) ≡ firstOf (offeringGrounds u flow)
+  pub offering : (flow deadline : ℕ) → refusalIn (offerOf u flow deadline .answer) ≡ firstOf (offeringGrounds u flow deadline)
   pub turning : (usable : Bool) → refusalIn (turnOf u usable .answer) ≡ firstOf (turnGrounds u)
 
 -- A refused call leaves the lane as it was.
 pub record RefusedSame (u : Urgent) (r : Refusal) : Type 0 where
   pub opening : (flow deadline : ℕ) → refusalIn (openOf u flow deadline .answer) ≡ some r → openOf u flow deadline .lane ≡ u
   pub closing : (flow : ℕ) → refusalIn (closeOf u flow .answer) ≡ some r → closeOf u flow .lane ≡ u
-  pub offering : (flow : ℕ) → refusalIn (offerOf u flow .answer) ≡ some r → offerOf u flow .lane ≡ u
+  pub offering : (flow deadline : ℕ) → refusalIn (offerOf u flow deadline .answer) ≡ some r → offerOf u flow deadline .lane ≡ u
   pub turning : (usable : Bool) → refusalIn (turnOf u usable .answer) ≡ some r → turnOf u usable .lane ≡ u

@@ -12,9 +12,9 @@ use units::LAST_FLOW;
 use units::Refusal;
 
 impl Urgent {
-    // Offers a cell of a flow.
-    pub fn offer(self, flow: u64) -> Done
-        ensures { λ r. ⌜ r ≡ offerOf self flow ⌝ }
+    // Offers a cell of a flow, which may wait for this many slots: its own deadline, no longer than the flow's.
+    pub fn offer(self, flow: u64, deadline: u64) -> Done
+        ensures { λ r. ⌜ r ≡ offerOf self flow deadline ⌝ }
     {
         if LAST_FLOW < flow {
             return Done {
@@ -29,6 +29,12 @@ impl Urgent {
             return Done {
                 lane: self,
                 answer: Answer::Refused(Refusal::NotOpen),
+            };
+        }
+        if units::outside(deadline, was.deadline) {
+            return Done {
+                lane: self,
+                answer: Answer::Refused(Refusal::BadDeadline),
             };
         }
         let mut cells = self.cells;
@@ -47,13 +53,13 @@ impl Urgent {
                 answer: Answer::Refused(Refusal::PlacesFull),
             };
         }
-        if window_passes(self.now, was.deadline) {
+        if window_passes(self.now, deadline) {
             return Done {
                 lane: self,
                 answer: Answer::Refused(Refusal::SlotsUsedUp),
             };
         }
-        let last = last_of(self.now, was.deadline);
+        let last = last_of(self.now, deadline);
         cells[f * 16 + k] = Cell {
             held: true,
             number: was.next,

@@ -42,14 +42,10 @@ pub(crate) fn window_passes(now: Slot, deadline: u64) -> bool
     units::passes(now.0, deadline, SLOT_LIMIT)
 }
 
-// The last slot of a window of so many slots from now on; a window of none from slot 0 on ends there.
+// The last slot of a window of so many slots from now on, one at least.
 pub(crate) fn last_of(now: Slot, deadline: u64) -> Slot
-    requires { ⌜ now .0 + deadline ≤ slotLimit ⌝ }
+    requires { ⌜ (1 ≤ deadline) × (now .0 + deadline ≤ slotLimit) ⌝ }
     ensures { λ r. ⌜ r ≡ record { 0 = now .0 + deadline - 1 } ⌝ }
 {
-    let end = now.0 + deadline;
-    if 0 < end {
-        return Slot(end - 1);
-    }
-    Slot(0)
+    Slot(now.0 + deadline - 1)
 }
