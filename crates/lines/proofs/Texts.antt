@@ -37,15 +37,15 @@ one-is : (letter a : ℕ) (c : Call) → a ≤ largest → oneOf letter a ≡ so
 one-is letter a c l e =
     let P = Is (letter ∷ blank ∷ decimalOf a) in
     chosen P (eqb letter bigC) (CloseUrgent a) _ c e (λ t. (rw (eqb-true letter bigC t), l))
-    (λ e. chosen P (eqb letter smallC) (CloseFair a) _ c e (λ t. (rw (eqb-true letter smallC t), l))
-    (λ e. chosen P (eqb letter smallU) (OfferCell a) none c e (λ t. (rw (eqb-true letter smallU t), l)) (λ e. absurd (Option·none-ne-some c e))))
+    (λ e. chosen P (eqb letter smallC) (CloseFair a) none c e (λ t. (rw (eqb-true letter smallC t), l)) (λ e. absurd (Option·none-ne-some c e)))
 
 two-is : (letter a b : ℕ) (c : Call) → a ≤ largest → b ≤ largest → twoOf letter a b ≡ some c → Is (letter ∷ blank ∷ (decimalOf a ++ blank ∷ decimalOf b)) c
 two-is letter a b c l m e =
     let P = Is (letter ∷ blank ∷ (decimalOf a ++ blank ∷ decimalOf b)) in
     chosen P (eqb letter bigU) (OpenUrgent a b) _ c e (λ t. (rw (eqb-true letter bigU t), (l, m)))
     (λ e. chosen P (eqb letter bigF) (OpenFair a b) _ c e (λ t. (rw (eqb-true letter bigF t), (l, m)))
-    (λ e. chosen P (eqb letter smallF) (OfferPacket a b) none c e (λ t. (rw (eqb-true letter smallF t), (l, m))) (λ e. absurd (Option·none-ne-some c e))))
+    (λ e. chosen P (eqb letter smallU) (OfferCell a b) _ c e (λ t. (rw (eqb-true letter smallU t), (l, m)))
+    (λ e. chosen P (eqb letter smallF) (OfferPacket a b) none c e (λ t. (rw (eqb-true letter smallF t), (l, m))) (λ e. absurd (Option·none-ne-some c e)))))
 
 second-is : (letter a : ℕ) (rest : List ℕ) (c : Call) → a ≤ largest → readSecond letter a (readNumber rest) ≡ some c → Is (letter ∷ blank ∷ (decimalOf a ++ blank ∷ rest)) c
 second-is letter a rest c l e = go (readNumber rest) refl e
@@ -86,7 +86,7 @@ reads-text (OpenUrgent flow deadline) s = rw (read-before flow (decimalOf deadli
 reads-text (OpenFair flow weight) s = rw (read-before flow (decimalOf weight) (s .0), read-last weight (s .1))
 reads-text (CloseUrgent flow) s = rw (read-last flow s)
 reads-text (CloseFair flow) s = rw (read-last flow s)
-reads-text (OfferCell flow) s = rw (read-last flow s)
+reads-text (OfferCell flow deadline) s = rw (read-before flow (decimalOf deadline) (s .0), read-last deadline (s .1))
 reads-text (OfferPacket flow len) s = rw (read-before flow (decimalOf len) (s .0), read-last len (s .1))
 reads-text OpenTurn s = refl
 reads-text LostTurn s = refl
@@ -113,7 +113,7 @@ texts-fit (OpenUrgent flow deadline) s = two-long bigU flow deadline (s .0) (s .
 texts-fit (OpenFair flow weight) s = two-long bigF flow weight (s .0) (s .1)
 texts-fit (CloseUrgent flow) s = omega (arith, ten-digits flow s)
 texts-fit (CloseFair flow) s = omega (arith, ten-digits flow s)
-texts-fit (OfferCell flow) s = omega (arith, ten-digits flow s)
+texts-fit (OfferCell flow deadline) s = two-long smallU flow deadline (s .0) (s .1)
 texts-fit (OfferPacket flow len) s = two-long smallF flow len (s .0) (s .1)
 texts-fit OpenTurn s = omega arith
 texts-fit LostTurn s = omega arith

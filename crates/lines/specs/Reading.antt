@@ -24,14 +24,14 @@ wordOf letter =
 -- the command of a letter and one number
 abbrev pub oneOf : ℕ → ℕ → Option Call
 oneOf letter a =
-    cond (eqb letter bigC) (some (CloseUrgent a))
-    (cond (eqb letter smallC) (some (CloseFair a)) (cond (eqb letter smallU) (some (OfferCell a)) none))
+    cond (eqb letter bigC) (some (CloseUrgent a)) (cond (eqb letter smallC) (some (CloseFair a)) none)
 
 -- the command of a letter and two numbers
 abbrev pub twoOf : ℕ → ℕ → ℕ → Option Call
 twoOf letter a b =
     cond (eqb letter bigU) (some (OpenUrgent a b))
-    (cond (eqb letter bigF) (some (OpenFair a b)) (cond (eqb letter smallF) (some (OfferPacket a b)) none))
+    (cond (eqb letter bigF) (some (OpenFair a b))
+    (cond (eqb letter smallU) (some (OfferCell a b)) (cond (eqb letter smallF) (some (OfferPacket a b)) none)))
 
 -- after a first number and a blank a second number ends the line
 abbrev pub readSecond : ℕ → ℕ → Option Taken → Option Call

@@ -59,7 +59,6 @@ fn one(letter: u8, a: u64) -> Parsed
     match letter {
         b'C' => Parsed::Command(Call::CloseUrgent(a)),
         b'c' => Parsed::Command(Call::CloseFair(a)),
-        b'u' => Parsed::Command(Call::OfferCell(a)),
         _ => Parsed::NoCommand,
     }
 }
@@ -71,6 +70,7 @@ fn two(letter: u8, a: u64, b: u64) -> Parsed
     match letter {
         b'U' => Parsed::Command(Call::OpenUrgent(a, b)),
         b'F' => Parsed::Command(Call::OpenFair(a, b)),
+        b'u' => Parsed::Command(Call::OfferCell(a, b)),
         b'f' => Parsed::Command(Call::OfferPacket(a, b)),
         _ => Parsed::NoCommand,
     }

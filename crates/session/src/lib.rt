@@ -96,9 +96,9 @@ impl Session {
                                 let answer = fair.answer;
                                 answered = Reply::Fair(answer);
                             }
-                            Call::OfferCell(flow) => {
+                            Call::OfferCell(flow, deadline) => {
                                 let lane = urgent.lane;
-                                urgent = lane.offer(flow);
+                                urgent = lane.offer(flow, deadline);
                                 let answer = urgent.answer;
                                 answered = Reply::Urgent(answer);
                             }

@@ -29,8 +29,9 @@ answered-in-kind s (CloseUrgent flow) =
     urgent-close (s .urgent) (λ d. InKind (CloseUrgent flow) (Urgent (d .answer))) (λ r. inl (r, refl)) flow (λ l w. inr refl)
 answered-in-kind s (CloseFair flow) =
     fair-close (s .fair) (λ d. InKind (CloseFair flow) (Fair (d .answer))) (λ r. inl (r, refl)) flow (λ l w s. inr refl)
-answered-in-kind s (OfferCell flow) =
-    cell-cases (s .urgent) (λ d. InKind (OfferCell flow) (Urgent (d .answer))) (λ r. inl (r, refl)) flow (λ l o w. inr (_, _, refl))
+answered-in-kind s (OfferCell flow deadline) =
+    cell-cases (s .urgent) (λ d. InKind (OfferCell flow deadline) (Urgent (d .answer))) (λ r. inl (r, refl)) flow deadline
+    (λ l o b w. inr (_, _, refl))
 answered-in-kind s (OfferPacket flow length) =
     packet-cases (s .fair) (λ d. InKind (OfferPacket flow length) (Fair (d .answer))) (λ r. inl (r, refl)) flow length
     (λ l o b w f n. inr (_, _, _, refl))

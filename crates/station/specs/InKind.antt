@@ -30,7 +30,7 @@ InKind (OpenUrgent flow deadline) reply = UrgentNo reply ⊎ (reply ≡ Urgent O
 InKind (OpenFair flow weight) reply = FairNo reply ⊎ (reply ≡ Fair FairOpened)
 InKind (CloseUrgent flow) reply = UrgentNo reply ⊎ (reply ≡ Urgent Closed)
 InKind (CloseFair flow) reply = FairNo reply ⊎ (reply ≡ Fair FairClosed)
-InKind (OfferCell flow) reply = UrgentNo reply ⊎ ((number : ℕ) × (last : Slot) × (reply ≡ Urgent (Accepted number last)))
+InKind (OfferCell flow deadline) reply = UrgentNo reply ⊎ ((number : ℕ) × (last : Slot) × (reply ≡ Urgent (Accepted number last)))
 InKind (OfferPacket flow length) reply =
     FairNo reply ⊎ ((number : ℕ) × (start : Tag) × (finish : Tag) × (reply ≡ Fair (FairAccepted number start finish)))
 InKind OpenTurn reply = UrgentNo reply ⊎ ((flow number missed : ℕ) × (reply ≡ Urgent (Sent flow number missed))) ⊎ IsIdle reply

@@ -29,8 +29,8 @@ pub enum Call {
     CloseUrgent(u64),
     // Closes a flow of the fair lane: the flow.
     CloseFair(u64),
-    // Offers a cell: the flow.
-    OfferCell(u64),
+    // Offers a cell: the flow and the cell's own deadline.
+    OfferCell(u64, u64),
     // Offers a packet: the flow and the length.
     OfferPacket(u64, u64),
     OpenTurn,
@@ -97,12 +97,12 @@ impl Station {
         by_fair(self, done)
     }
 
-    // Offers a cell of a flow to the urgent lane.
-    pub fn offer_cell(self, flow: u64) -> Called
-        ensures { λ r. ⌜ r ≡ byUrgent self (offerCellOf (self .urgent) flow) ⌝ }
+    // Offers a cell of a flow to the urgent lane, with a deadline of its own.
+    pub fn offer_cell(self, flow: u64, deadline: u64) -> Called
+        ensures { λ r. ⌜ r ≡ byUrgent self (offerCellOf (self .urgent) flow deadline) ⌝ }
     {
         let lane = self.urgent;
-        let done = lane.offer(flow);
+        let done = lane.offer(flow, deadline);
         by_urgent(self, done)
     }
 
@@ -151,7 +151,7 @@ impl Station {
             Call::OpenFair(flow, weight) => self.open_fair(flow, weight),
             Call::CloseUrgent(flow) => self.close_urgent(flow),
             Call::CloseFair(flow) => self.close_fair(flow),
-            Call::OfferCell(flow) => self.offer_cell(flow),
+            Call::OfferCell(flow, deadline) => self.offer_cell(flow, deadline),
             Call::OfferPacket(flow, length) => self.offer_packet(flow, length),
             Call::OpenTurn => self.turn(true),
             Call::LostTurn => self.turn(false),

@@ -65,12 +65,12 @@ pub extern "C" fn tuhkeliar_close_fair(station: Station, flow: u64) -> Called
     handed(called)
 }
 
-// Offers a cell of a flow to the urgent lane.
+// Offers a cell of a flow to the urgent lane, with a deadline of its own.
 #[no_mangle]
-pub extern "C" fn tuhkeliar_offer_cell(station: Station, flow: u64) -> Called
-    ensures { λ r. ⌜ r ≡ calledOf (byUrgent station (offerCellOf (station .urgent) flow)) ⌝ }
+pub extern "C" fn tuhkeliar_offer_cell(station: Station, flow: u64, deadline: u64) -> Called
+    ensures { λ r. ⌜ r ≡ calledOf (byUrgent station (offerCellOf (station .urgent) flow deadline)) ⌝ }
 {
-    let called = station.offer_cell(flow);
+    let called = station.offer_cell(flow, deadline);
     handed(called)
 }
 
