@@ -70,19 +70,19 @@ refused-as-noted u h k =
       closing = λ flow.
           refused-first u .closing flow
           ∙ after-flow flow _ _ (λ l. rw (k .openFlows flow (omega arith), waiting-told u h k flow (omega arith)));
-      offering = λ flow.
-          refused-first u .offering flow
+      offering = λ flow deadline.
+          refused-first u .offering flow deadline
           ∙ after-flow flow _ _ (λ l. rw (k .openFlows flow (omega arith), waiting-told u h k flow (omega arith), k .time, k .deadlines flow (omega arith)));
       turning = λ usable. refused-first u .turning usable ∙ rw (k .time);
     }
 
 -- ---- U3: what an accepted offer is told
-pub offer-told : (u : Urgent) (h : Cells) → Kept u h → (flow : ℕ) → refusalIn (offerOf u flow .answer) ≡ none
-    → told (offerOf u flow .answer) .values ≡ acceptedOf h flow ∷ lastIn h flow ∷ []
-offer-told u h k flow =
-    offer-cases u (λ d. refusalIn (d .answer) ≡ none → told (d .answer) .values ≡ acceptedOf h flow ∷ lastIn h flow ∷ [])
-    (λ r e. absurd (none-is-none r (sym e))) flow
-    (λ l o w e. rw (k .next flow (omega arith), k .time, k .deadlines flow (omega arith)))
+pub offer-told : (u : Urgent) (h : Cells) → Kept u h → (flow deadline : ℕ) → refusalIn (offerOf u flow deadline .answer) ≡ none
+    → told (offerOf u flow deadline .answer) .values ≡ acceptedOf h flow ∷ lastIn h deadline ∷ []
+offer-told u h k flow deadline =
+    offer-cases u (λ d. refusalIn (d .answer) ≡ none → told (d .answer) .values ≡ acceptedOf h flow ∷ lastIn h deadline ∷ [])
+    (λ r e. absurd (none-is-none r (sym e))) flow deadline
+    (λ l o d w e. rw (k .next flow (omega arith), k .time))
 
 -- ---- U2: what an open turn finds among the waiting cells
 abbrev pub factsKey : Facts → Key

@@ -1,6 +1,6 @@
 -- All that the calls keep, in one record, and that each call of the urgent lane keeps it.
 use mathlib.Core.Path.{_≡_, refl, sym, ap, _∙_}
-use mathlib.Core.Bool.{Bool, true, false, _&&_, false≢true}
+use mathlib.Core.Bool.{Bool, true, false, _&&_}
 use mathlib.Core.List.{List, _∷_}
 use Prim.Native.Nat.{ℕ, _+_, _<_, zero-le}
 use native.Mathlib.Omega.{arith}
@@ -21,7 +21,7 @@ use Rattle.urgent.proofs.Cases.{open-cases, close-cases, offer-cases, turn-case
 use Rattle.promises_urgent.specs.Cells.{Cell, Cells, noCells, waits, isMissed}
 use Rattle.promises_urgent.specs.Notes.{marked, noteOpening, noteClosing, noteOffer, noteTurn}
 use Rattle.promises_urgent.specs.Promised.{holds, TermsStand}
-use Rattle.promises_urgent.proofs.Kept.{Kept, placeFacts, cellFacts, cells-tied, Few, waiting-told, kept-open, kept-close, kept-offer, few-offer, offeredCell, offer-waits, offer-window}
+use Rattle.promises_urgent.proofs.Kept.{Kept, placeFacts, cellFacts, cells-tied, Few, waiting-told, kept-open, kept-close, kept-offer, few-offer, offeredCell, offer-waits, offer-window, offer-within}
 use Rattle.promises_urgent.proofs.Turned.{without, goneFrom, sentCells, endLane, endCells, kept-sent, kept-end, few-turn, waits-less, sent-waits}
 use Rattle.promises_urgent.proofs.Missed.{waiting-not-missed, missed-end, missed-sent}
 use Rattle.promises_urgent.proofs.Account.{factsKey, none-wait}
@@ -53,7 +53,6 @@ good-fresh =
             within = omega arith;
             openFlows = λ f b. ap (λ (x : Flow). x .opened) (getD-replicate 16 f shutFlow shutFlow b);
             deadlines = λ f b. ap (λ (x : Flow). x .deadline) (getD-replicate 16 f shutFlow shutFlow b);
-            live = λ f o. absurd (false≢true o);
             next = λ f b. ap (λ (x : Flow). x .next) (getD-replicate 16 f shutFlow shutFlow b);
             numbered = tt;
             windowed = tt;
@@ -86,7 +85,7 @@ module _ (u : Urgent) (h : Cells) (g : Good u h) where
   good-open flow deadline =
       open-cases u (λ d. Good (d .lane) (noteOpening h flow deadline (d .answer))) (λ r. g) flow deadline
       (λ l o d.
-      good-marked (opened u flow deadline .lane) (opens flow deadline) (kept-open u h (g .kept) flow l deadline d)
+      good-marked (opened u flow deadline .lane) (opens flow deadline) (kept-open u h (g .kept) flow l deadline)
       (terms-opened h (g .terms) flow deadline (sym (g .kept .openFlows flow (omega arith)) ∙ o)))
 
   pub good-close : (flow : ℕ) → Good (closeOf u flow .lane) (noteClosing h flow (closeOf u flow .answer))
@@ -96,22 +95,24 @@ module _ (u : Urgent) (h : Cells) (g : Good u h) where
       good-marked (closed u flow .lane) (closes flow) (kept-close u h (g .kept) flow l)
       (terms-closed h (g .terms) flow (omega (arith, sym (waiting-told u h (g .kept) flow (omega arith))))))
 
-  pub good-offer : (flow : ℕ) → Good (offerOf u flow .lane) (noteOffer h flow (offerOf u flow .answer))
+  pub good-offer : (flow deadline : ℕ) → Good (offerOf u flow deadline .lane) (noteOffer h flow deadline (offerOf u flow deadline .answer))
   unfolding count
-  good-offer flow =
-      offer-cases u (λ d. Good (d .lane) (noteOffer h flow (d .answer))) (λ r. g) flow
-      (λ l o room. record {
-        kept = kept-offer u h (g .kept) (g .few) flow l o room;
-        few = few-offer u h (g .kept) (g .few) flow l o room;
-        missed = rw (waiting-not-missed h (offeredCell u h flow) (offer-waits u h (g .kept) (g .few) flow l o room)) (omega (arith, g .missed));
-        best =
-            best-offer h (g .best) (offeredCell u h flow) refl (offer-window u h (g .kept) (g .few) flow l o room)
-            (offer-waits u h (g .kept) (g .few) flow l o room);
-        reasons =
-            reasons-offer h (g .reasons) (offeredCell u h flow) refl (offer-window u h (g .kept) (g .few) flow l o room)
-            (offer-waits u h (g .kept) (g .few) flow l o room);
-        sends = sends-offer h (g .sends) (offeredCell u h flow) refl (offer-waits u h (g .kept) (g .few) flow l o room);
-        terms = terms-offer h (g .terms) (offeredCell u h flow) (sym (g .kept .openFlows flow (omega arith)) ∙ o) refl;
+  good-offer flow deadline =
+      offer-cases u (λ d. Good (d .lane) (noteOffer h flow deadline (d .answer))) (λ r. g) flow deadline
+      (λ l o d room.
+      let a = offeredCell u h flow deadline in
+      let waits-now = offer-waits u h (g .kept) (g .few) flow deadline l o d room in
+      let window = offer-window u h (g .kept) (g .few) flow deadline l o d room in
+      record {
+        kept = kept-offer u h (g .kept) (g .few) flow deadline l o d room;
+        few = few-offer u h (g .kept) (g .few) flow deadline l o d room;
+        missed = rw (waiting-not-missed h a waits-now) (omega (arith, g .missed));
+        best = best-offer h (g .best) a refl window waits-now;
+        reasons = reasons-offer h (g .reasons) a refl window waits-now;
+        sends = sends-offer h (g .sends) a refl waits-now;
+        terms =
+            terms-offer h (g .terms) a (sym (g .kept .openFlows flow (omega arith)) ∙ o)
+            (refl, offer-within u h (g .kept) (g .few) flow deadline l o d room);
       })
 
   -- a turn that sends nothing

@@ -8,10 +8,10 @@ use native.Mathlib.Omega.{arith}
 use borrow.Author.Tests.{eq-eqb, ne-eqb, le-leb}
 use lib.Dec.{leb, eqb}
 use lib.ListN.{length, getD, set, length-set}
-use Rattle.units.specs.Limits.{placeCount, slotLimit, badDeadline}
+use Rattle.units.specs.Limits.{placeCount, slotLimit, outsideOf}
 use Rattle.units.proofs.Limits.{inside}
 use Rattle.places.specs.Places.{bit, count, countAt, flowOf, firstFree, placesOf}
-use Rattle.places.specs.Marks.{Mark, opens, closes, openIn, inForce}
+use Rattle.places.specs.Marks.{Mark, opens, closes, openIn}
 use Rattle.places.proofs.Count.{count-le, count-le-length, and-le}
 use Rattle.places.proofs.CountAt.{own-places}
 use Rattle.places.proofs.Free.{part-length}
@@ -19,7 +19,7 @@ use Rattle.places.proofs.Tests.{and-holds}
 use Rattle.places.proofs.Numbers.{none-above}
 use Rattle.places.proofs.Waiting.{Tied}
 use Rattle.places.proofs.Coming.{tied-come}
-use Rattle.places.proofs.Marks.{force-opened, force-closed, AsMarked, marked-opened, marked-closed}
+use Rattle.places.proofs.Marks.{AsMarked, marked-opened, marked-closed}
 use Rattle.places.proofs.Stores.{set-cases, set-keeps}
 use Rattle.urgent.specs.declared.Cell.{Cell as Place}
 use Rattle.urgent.specs.declared.Flow.{Flow}
@@ -37,7 +37,6 @@ pub record Kept (u : Urgent) (h : Cells) : Type 0 where
   pub within : h .slot ≤ slotLimit
   pub openFlows : (f : ℕ) → f < 16 → flowAt u f .opened ≡ openIn (h .marks) f
   pub deadlines : (f : ℕ) → f < 16 → flowAt u f .deadline ≡ deadlineIn h f
-  pub live : (f : ℕ) → openIn (h .marks) f ≡ true → 1 ≤ deadlineIn h f
   pub next : (f : ℕ) → f < 16 → flowAt u f .next ≡ acceptedOf h f
   pub numbered : CellsNumbered (h .accepted)
   pub windowed : Windowed (h .accepted)
@@ -92,8 +91,8 @@ module _ (u : Urgent) (h : Cells) (k : Kept u h) (flow : ℕ) (l : flow ≤ 15) 
   as-marked f b = (k .openFlows f b, k .deadlines f b)
 
   kept-marked : (x : Flow) (mark : Mark) → x .next ≡ flowAt u flow .next → FlowsAsMarked (set (u .flows) flow x) (mark ∷ h .marks)
-      → ((f : ℕ) → openIn (mark ∷ h .marks) f ≡ true → 1 ≤ inForce (mark ∷ h .marks) f) → Kept (withFlow u flow x) (marked h mark)
-  kept-marked x mark next t live =
+      → Kept (withFlow u flow x) (marked h mark)
+  kept-marked x mark next t =
       record {
         sixteen = length-set (u .flows) flow x ∙ k .sixteen;
         long = k .long;
@@ -101,7 +100,6 @@ module _ (u : Urgent) (h : Cells) (k : Kept u h) (flow : ℕ) (l : flow ≤ 15) 
         within = k .within;
         openFlows = λ f b. t f b .0;
         deadlines = λ f b. t f b .1;
-        live = live;
         next = λ f b. set-keeps (u .flows) flow x shutFlow low (λ (y : Flow). y .next) next f ∙ k .next f b;
         numbered = k .numbered;
         windowed = k .windowed;
@@ -109,25 +107,24 @@ module _ (u : Urgent) (h : Cells) (k : Kept u h) (flow : ℕ) (l : flow ≤ 15) 
         gone = k .gone;
       }
 
-  pub kept-open : (deadline : ℕ) → badDeadline deadline ≡ false → Kept (opened u flow deadline .lane) (marked h (opens flow deadline))
-  kept-open deadline d =
+  pub kept-open : (deadline : ℕ) → Kept (opened u flow deadline .lane) (marked h (opens flow deadline))
+  kept-open deadline =
       kept-marked _ (opens flow deadline) refl
       (marked-opened (λ (x : Flow). x .opened) (λ (x : Flow). x .deadline) shutFlow 16 (u .flows) (h .marks) as-marked flow _ low refl)
-      (force-opened (λ n. 1 ≤ n) (h .marks) (k .live) flow deadline (inside deadline 4096 d .0))
 
   pub kept-close : Kept (closed u flow .lane) (marked h (closes flow))
   kept-close =
       kept-marked _ (closes flow) refl
       (marked-closed (λ (x : Flow). x .opened) (λ (x : Flow). x .deadline) shutFlow 16 (u .flows) (h .marks) as-marked flow _ low refl (k .deadlines flow (omega arith)))
-      (force-closed (λ n. 1 ≤ n) (h .marks) (k .live) flow)
 
 -- ---- a cell is accepted
 -- as the history has it
-abbrev pub offeredCell : Urgent → Cells → ℕ → Cell
-offeredCell u h flow =
-    record { flow = flow; number = flowAt u flow .next; last = lastSlot u flow; arrival = h .slot; deadline = deadlineIn h flow }
+abbrev pub offeredCell : Urgent → Cells → ℕ → ℕ → Cell
+offeredCell u h flow deadline =
+    record { flow = flow; number = flowAt u flow .next; last = lastSlot u deadline; arrival = h .slot; deadline = deadline; full = deadlineIn h flow }
 
-module _ (u : Urgent) (h : Cells) (k : Kept u h) (few : Few h) (flow : ℕ) (l : flow ≤ 15) (o : flowAt u flow .opened ≡ true) (room : waitingOf u flow < 16) where
+module _ (u : Urgent) (h : Cells) (k : Kept u h) (few : Few h) (flow deadline : ℕ) (l : flow ≤ 15) (o : flowAt u flow .opened ≡ true)
+    (d : outsideOf deadline (flowAt u flow .deadline) ≡ false) (room : waitingOf u flow < 16) where
   place : ℕ
   place = flow * placeCount + firstFree isHeld (placesOf placeCount flow (u .cells))
 
@@ -135,10 +132,14 @@ module _ (u : Urgent) (h : Cells) (k : Kept u h) (few : Few h) (flow : ℕ) (l :
   number = flowAt u flow .next
 
   last : ℕ
-  last = lastSlot u flow
+  last = lastSlot u deadline
 
   is-open : openIn (h .marks) flow ≡ true
   is-open = sym (k .openFlows flow (omega arith)) ∙ o
+
+  -- the cell has a slot at least, and no more than its flow allows
+  within-flow : (1 ≤ deadline) × (deadline ≤ deadlineIn h flow)
+  within-flow = let b = inside deadline (flowAt u flow .deadline) d in (b .0, omega (arith, b .1, k .deadlines flow (omega arith)))
 
   -- the number is new, so it was not sent
   unsent : (gs : List Gone) → count (λ (g : Gone). eqb (g .flow) flow && eqb (g .number) number) gs ≡ 0 → wasSent gs flow number ≡ false
@@ -166,13 +167,13 @@ module _ (u : Urgent) (h : Cells) (k : Kept u h) (few : Few h) (flow : ℕ) (l :
 
   in-window : leb (h .slot) last ≡ true
   unfolding last
-  in-window = le-leb (h .slot) last (omega (arith, k .time, k .deadlines flow (omega arith), k .live flow is-open))
+  in-window = le-leb (h .slot) last (omega (arith, k .time, within-flow .0))
 
   new-place : Place
   new-place = record { held = true; number = number; last = record { 0 = last } }
 
   new-cell : Cell
-  new-cell = record { flow = flow; number = number; last = last; arrival = h .slot; deadline = deadlineIn h flow }
+  new-cell = record { flow = flow; number = number; last = last; arrival = h .slot; deadline = deadline; full = deadlineIn h flow }
 
   new-waits : waits h new-cell ≡ true
   unfolding new-cell
@@ -201,7 +202,7 @@ module _ (u : Urgent) (h : Cells) (k : Kept u h) (few : Few h) (flow : ℕ) (l :
       (λ e. rw (eq-eqb flow f (sym e), e) (sym is-open, k .deadlines flow (omega arith), fits ∙ omega (arith, k .next flow (omega arith))))
       (λ n. rw (ne-eqb flow f (λ q. n (sym q))) (k .openFlows f b, k .deadlines f b, omega (arith, k .next f b)))
 
-  pub kept-offer : Kept (accepted u flow .lane) (noteOffer h flow (accepted u flow .answer))
+  pub kept-offer : Kept (accepted u flow deadline .lane) (noteOffer h flow deadline (accepted u flow deadline .answer))
   unfolding count number last place new-place new-cell after-offer
   kept-offer =
       record {
@@ -211,24 +212,27 @@ module _ (u : Urgent) (h : Cells) (k : Kept u h) (few : Few h) (flow : ℕ) (l :
         within = k .within;
         openFlows = λ f b. offer-flow f b .0;
         deadlines = λ f b. offer-flow f b .1;
-        live = k .live;
         next = λ f b. offer-flow f b .2;
         numbered = (k .next flow (omega arith), k .numbered);
-        windowed = ((omega (arith, k .time, k .deadlines flow (omega arith)), k .live flow is-open), k .windowed);
+        windowed = ((omega (arith, k .time), within-flow .0, within-flow .1), k .windowed);
         tied = λ ask.
             tied-come isHeld placeFacts cellFacts freeCell (u .cells) (h .accepted) (waits h) (cells-tied u h k) placeCount flow (omega (arith, k .long)) room
             new-place new-cell refl new-waits (λ place e. ap (λ (f : ℕ). (f, number, last)) e) (asking ask);
         gone = λ ask. omega (arith, k .gone ask, and-false (ask flow number) (wasSent (h .sent) flow number) new-unsent);
       }
 
-  pub few-offer : Few (noteOffer h flow (accepted u flow .answer))
+  pub few-offer : Few (noteOffer h flow deadline (accepted u flow deadline .answer))
   unfolding count number last new-cell
   few-offer f b = omega (arith, few f b, ap bit (and-holds (eqb flow f) (waits h new-cell) new-waits))
 
   -- the accepted cell waits, in the window that the rules give it
-  pub offer-waits : waits h (offeredCell u h flow) ≡ true
+  pub offer-waits : waits h (offeredCell u h flow deadline) ≡ true
   unfolding new-cell number last
   offer-waits = new-waits
 
-  pub offer-window : lastSlot u flow ≡ h .slot + deadlineIn h flow - 1
-  offer-window = omega (arith, k .time, k .deadlines flow (omega arith))
+  pub offer-window : lastSlot u deadline ≡ h .slot + deadline - 1
+  offer-window = omega (arith, k .time)
+
+  -- and its own deadline is no longer than its flow's
+  pub offer-within : deadline ≤ deadlineIn h flow
+  offer-within = within-flow .1

@@ -129,7 +129,6 @@ module _ (u : Urgent) (h : Cells) (k : Kept u h) (place : ℕ) (c : Place) (low 
         within = k .within;
         openFlows = k .openFlows;
         deadlines = k .deadlines;
-        live = k .live;
         next = k .next;
         numbered = k .numbered;
         windowed = k .windowed;
@@ -191,7 +190,6 @@ module _ (u : Urgent) (h : Cells) (k : Kept u h) (low : u .now .0 < slotLimit) (
         within = omega (arith, k .time);
         openFlows = k .openFlows;
         deadlines = k .deadlines;
-        live = k .live;
         next = k .next;
         numbered = k .numbered;
         windowed = k .windowed;

@@ -7,16 +7,18 @@ use Rattle.places.specs.Marks.{Mark, inForce}
 use Rattle.places.specs.Numbers.{isThis}
 use Rattle.promises_urgent.specs.Plans.{Window, windowFrom}
 
--- an accepted cell: its flow, its number and last slot as answered, the slot number at its acceptance, and the deadline then in force
+-- an accepted cell: its flow, its number and last slot as answered, the slot number at its acceptance, its own deadline as offered, and the
+-- deadline of its flow then in force, which is the most that it could have had
 pub record Cell : Type 0 where
   pub flow : ℕ
   pub number : ℕ
   pub last : ℕ
   pub arrival : ℕ
   pub deadline : ℕ
+  pub full : ℕ
 
 abbrev pub noCell : Cell
-noCell = record { flow = 0; number = 0; last = 0; arrival = 0; deadline = 0 }
+noCell = record { flow = 0; number = 0; last = 0; arrival = 0; deadline = 0; full = 0 }
 
 -- a cell is known by its flow and its number
 abbrev pub itsFlow : Cell → ℕ
@@ -68,7 +70,7 @@ waits h a = not (wasSent (h .sent) (a .flow) (a .number)) && leb (h .slot) (a .l
 abbrev pub isMissed : Cells → Cell → Bool
 isMissed h a = not (wasSent (h .sent) (a .flow) (a .number)) && ltb (a .last) (h .slot)
 
--- the window of an accepted cell, from the slot of its acceptance and the deadline then in force
+-- the window of an accepted cell, from the slot of its acceptance and its own deadline
 abbrev pub windowOf : Cell → Window
 windowOf a = windowFrom (a .arrival) (a .deadline)
 

@@ -31,23 +31,23 @@ noteClosing h flow (Sent f n m) = h
 noteClosing h flow (Idle m) = h
 
 -- an offering call and its answer
-abbrev pub noteOffer : Cells → ℕ → Answer → Cells
-noteOffer h flow (Accepted number last) =
+abbrev pub noteOffer : Cells → ℕ → ℕ → Answer → Cells
+noteOffer h flow deadline (Accepted number last) =
     record {
       slot = h .slot;
       marks = h .marks;
       accepted =
-          record { flow = flow; number = number; last = last .0; arrival = h .slot; deadline = deadlineIn h flow }
+          record { flow = flow; number = number; last = last .0; arrival = h .slot; deadline = deadline; full = deadlineIn h flow }
           ∷ h .accepted;
       usable = h .usable;
       sent = h .sent;
       missed = h .missed;
     }
-noteOffer h flow (Refused r) = h
-noteOffer h flow Opened = h
-noteOffer h flow Closed = h
-noteOffer h flow (Sent f n m) = h
-noteOffer h flow (Idle m) = h
+noteOffer h flow deadline (Refused r) = h
+noteOffer h flow deadline Opened = h
+noteOffer h flow deadline Closed = h
+noteOffer h flow deadline (Sent f n m) = h
+noteOffer h flow deadline (Idle m) = h
 
 -- the slot of a turn, where the turn is open
 abbrev pub slotOf : Bool → ℕ → List ℕ → List ℕ

@@ -79,13 +79,13 @@ Earliest h (Accepted number last) = ⊥
 abbrev pub CellsNumbered : List Cell → Type 0
 CellsNumbered cells = Numbered itsFlow itsNumber cells
 
--- U3: and its last slot, as answered, is that of its window, which has a slot at least.
+-- U3: and its last slot, as answered, is that of its window, which has a slot at least and is no longer than its flow's deadline.
 abbrev pub Windowed : List Cell → Type 0
-Windowed cells = Each (λ (a : Cell). (a .last ≡ windowOf a .last) × (1 ≤ a .deadline)) cells
+Windowed cells = Each (λ (a : Cell). (a .last ≡ windowOf a .last) × (1 ≤ a .deadline) × (a .deadline ≤ a .full)) cells
 
--- the last slot of the window of a cell accepted now
+-- the last slot of the window of a cell accepted now with a deadline
 abbrev pub lastIn : Cells → ℕ → ℕ
-lastIn h flow = h .slot + deadlineIn h flow - 1
+lastIn h deadline = h .slot + deadline - 1
 
 -- U3: and no flow's next number comes near the end of its type: at most sixteen cells of a flow leave in a slot, and sixteen wait.
 abbrev pub FewNumbers : Urgent → Type 0
@@ -119,7 +119,11 @@ NoneBetter h = (plan : List Sending) → Plan (windows h) (h .usable) plan → l
 abbrev pub Explained : Cells → Type 0
 Explained h = Each (λ (a : Cell). isMissed h a ≡ true → Overloaded (windows h) (h .usable) (windowOf a)) (h .accepted)
 
--- U7: a cell that waits is of an open flow, and the deadline of its acceptance is still in force.
+-- a cell was accepted while its flow's deadline was this, and its own is at most that
+abbrev pub OnTerms : Cell → ℕ → Type 0
+OnTerms a deadline = (a .full ≡ deadline) × (a .deadline ≤ deadline)
+
+-- U7: a cell that waits is of an open flow, whose deadline is still that of the cell's acceptance; the cell's own is at most that.
 abbrev pub TermsStand : Cells → Type 0
 TermsStand h =
-    Each (λ (a : Cell). waits h a ≡ true → (openIn (h .marks) (a .flow) ≡ true) × (a .deadline ≡ deadlineIn h (a .flow))) (h .accepted)
+    Each (λ (a : Cell). waits h a ≡ true → (openIn (h .marks) (a .flow) ≡ true) × OnTerms a (deadlineIn h (a .flow))) (h .accepted)

@@ -4,7 +4,7 @@ use mathlib.Core.Bool.{Bool, not}
 use mathlib.Core.List.{List, [], _∷_}
 use Prim.Native.Nat.{ℕ, _+_}
 use lib.Dec.{leb, ltb}
-use Rattle.units.specs.Limits.{placeCount, slotLimit, noSuchFlow, badDeadline}
+use Rattle.units.specs.Limits.{placeCount, slotLimit, noSuchFlow, outsideOf, badDeadline}
 use Rattle.units.specs.Refusals.{Ground, firstOf}
 use Rattle.units.specs.declared.Refusal.the-variants.{NoSuchFlow, NotOpen, AlreadyOpen, PlacesFull, SlotsUsedUp, FlowInUse, BadDeadline}
 use Rattle.places.specs.Marks.{openIn}
@@ -24,12 +24,13 @@ abbrev pub closingNoted : Cells → ℕ → List Ground
 closingNoted h flow =
     (NoSuchFlow, noSuchFlow flow) ∷ (NotOpen, not (openIn (h .marks) flow)) ∷ (FlowInUse, ltb 0 (waitingIn h flow)) ∷ []
 
-abbrev pub offeringNoted : Cells → ℕ → List Ground
-offeringNoted h flow =
+abbrev pub offeringNoted : Cells → ℕ → ℕ → List Ground
+offeringNoted h flow deadline =
     (NoSuchFlow, noSuchFlow flow)
     ∷ (NotOpen, not (openIn (h .marks) flow))
+    ∷ (BadDeadline, outsideOf deadline (deadlineIn h flow))
     ∷ (PlacesFull, leb placeCount (waitingIn h flow))
-    ∷ (SlotsUsedUp, ltb slotLimit (h .slot + deadlineIn h flow))
+    ∷ (SlotsUsedUp, ltb slotLimit (h .slot + deadline))
     ∷ []
 
 abbrev pub turnNoted : Cells → List Ground
@@ -39,5 +40,5 @@ turnNoted h = (SlotsUsedUp, leb slotLimit (h .slot)) ∷ []
 pub record RefusedAsNoted (u : Urgent) (h : Cells) : Type 0 where
   pub opening : (flow deadline : ℕ) → refusalIn (openOf u flow deadline .answer) ≡ firstOf (openingNoted h flow deadline)
   pub closing : (flow : ℕ) → refusalIn (closeOf u flow .answer) ≡ firstOf (closingNoted h flow)
-  pub offering : (flow : ℕ) → refusalIn (offerOf u flow .answer) ≡ firstOf (offeringNoted h flow)
+  pub offering : (flow deadline : ℕ) → refusalIn (offerOf u flow deadline .answer) ≡ firstOf (offeringNoted h flow deadline)
   pub turning : (usable : Bool) → refusalIn (turnOf u usable .answer) ≡ firstOf (turnNoted h)
