@@ -35,7 +35,7 @@ promises =
       S2-order = grounds-in-order;
       S2-numbers = refl;
       S2-never4 = never-4;
-      S2-limits = record { flows = λ flow. refl; places = refl; weights = λ weight. refl; deadlines = λ deadline. refl; lengths = λ length. refl; slots = refl; tags = refl; numbers = refl };
+      S2-limits = record { flows = λ flow. refl; places = refl; weights = λ weight. refl; deadlines = λ deadline. refl; own-deadlines = λ deadline most. refl; lengths = λ length. refl; slots = refl; tags = refl; numbers = refl };
       S3-urgent = urgent-only;
       S3-fair = fair-only;
       S4 = refused-as-noted;

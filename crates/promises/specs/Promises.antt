@@ -40,7 +40,7 @@ groundsNoted r (OpenUrgent flow deadline) = urgentOpening (r .cells) flow deadli
 groundsNoted r (OpenFair flow weight) = fairOpening (r .packets) flow weight
 groundsNoted r (CloseUrgent flow) = urgentClosing (r .cells) flow
 groundsNoted r (CloseFair flow) = fairClosing (r .packets) flow
-groundsNoted r (OfferCell flow) = cellOffering (r .cells) flow
+groundsNoted r (OfferCell flow deadline) = cellOffering (r .cells) flow deadline
 groundsNoted r (OfferPacket flow length) = packetOffering (r .packets) flow length
 groundsNoted r OpenTurn = turnNoted (r .cells)
 groundsNoted r LostTurn = turnNoted (r .cells)
@@ -74,10 +74,10 @@ pub record Promises : Type 0 where
   -- U2: of the cells that wait, an open turn sends the one whose last slot comes first, ties to the lowest flow and then the lowest number;
   -- that no other cell leaves by sending is U1 after the turn
   pub U2 : (calls : List Call) → onUrgent (Earliest (run calls .cells)) (replyTo calls OpenTurn)
-  -- U3: an accepted cell is told how many of its flow were accepted before it, and the last slot of its window; no number wraps
+  -- U3: an accepted cell is told how many of its flow were accepted before it, and the last slot of its window by its own deadline; no number wraps
   pub U3 :
-      (calls : List Call) (flow : ℕ) → refusalIn (replyTo calls (OfferCell flow)) ≡ none
-      → told (replyTo calls (OfferCell flow)) .values ≡ acceptedOf (run calls .cells) flow ∷ lastIn (run calls .cells) flow ∷ []
+      (calls : List Call) (flow deadline : ℕ) → refusalIn (replyTo calls (OfferCell flow deadline)) ≡ none
+      → told (replyTo calls (OfferCell flow deadline)) .values ≡ acceptedOf (run calls .cells) flow ∷ lastIn (run calls .cells) deadline ∷ []
   pub U3-numbers : (calls : List Call) → CellsNumbered (run calls .cells .accepted)
   pub U3-windows : (calls : List Call) → Windowed (run calls .cells .accepted)
   pub U3-few : (calls : List Call) → FewNumbers (run calls .station .urgent)
@@ -87,7 +87,7 @@ pub record Promises : Type 0 where
   pub U5 : (calls : List Call) → NoneBetter (run calls .cells)
   -- U6: every missed cell has a reason
   pub U6 : (calls : List Call) → Explained (run calls .cells)
-  -- U7: a cell that waits is of an open flow, and the deadline of its acceptance is still in force
+  -- U7: a cell that waits is of an open flow, whose deadline is still that of the cell's acceptance; the cell's own is at most that
   pub U7 : (calls : List Call) → TermsStand (run calls .cells)
   -- F1: virtual time is the published one, and an accepted packet is told the published tags
   pub F1-time : (calls : List Call) → run calls .station .fair .time .0 ≡ virtualTime (run calls .packets .moments)

@@ -20,7 +20,7 @@ abbrev pub noteCells : Cells → Call → Reply → Cells
 noteCells h call (Fair answer) = h
 noteCells h (OpenUrgent flow deadline) (Urgent answer) = noteOpening h flow deadline answer
 noteCells h (CloseUrgent flow) (Urgent answer) = noteClosing h flow answer
-noteCells h (OfferCell flow) (Urgent answer) = noteOffer h flow answer
+noteCells h (OfferCell flow deadline) (Urgent answer) = noteOffer h flow deadline answer
 noteCells h OpenTurn (Urgent answer) = noteTurn h true answer
 noteCells h LostTurn (Urgent answer) = noteTurn h false answer
 noteCells h (OpenFair flow weight) (Urgent answer) = h
@@ -39,7 +39,7 @@ notePackets h Begin (Fair answer) = noteService h answer
 notePackets h End (Fair answer) = noteService h answer
 notePackets h (OpenUrgent flow deadline) (Fair answer) = noteOther h
 notePackets h (CloseUrgent flow) (Fair answer) = noteOther h
-notePackets h (OfferCell flow) (Fair answer) = noteOther h
+notePackets h (OfferCell flow deadline) (Fair answer) = noteOther h
 notePackets h OpenTurn (Fair answer) = noteOther h
 notePackets h LostTurn (Fair answer) = noteOther h
 

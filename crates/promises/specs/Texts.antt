@@ -22,7 +22,7 @@ pub record CommandsSpelled : Type 0 where
   pub openFair : (flow weight : ℕ) → textOf (OpenFair flow weight) ≡ bytesOf "F" ++ field flow ++ field weight
   pub closeUrgent : (flow : ℕ) → textOf (CloseUrgent flow) ≡ bytesOf "C" ++ field flow
   pub closeFair : (flow : ℕ) → textOf (CloseFair flow) ≡ bytesOf "c" ++ field flow
-  pub offerCell : (flow : ℕ) → textOf (OfferCell flow) ≡ bytesOf "u" ++ field flow
+  pub offerCell : (flow deadline : ℕ) → textOf (OfferCell flow deadline) ≡ bytesOf "u" ++ field flow ++ field deadline
   pub offerPacket : (flow length : ℕ) → textOf (OfferPacket flow length) ≡ bytesOf "f" ++ field flow ++ field length
   pub openTurn : textOf OpenTurn ≡ bytesOf "t"
   pub lostTurn : textOf LostTurn ≡ bytesOf "x"
