@@ -1,5 +1,5 @@
 -- What every list of calls keeps, call by call: a call adds nothing, a mark, an accepted cell or a turn to what is noted. So where no turn was lost
--- every slot was open; the missed counts never fall; each accepted cell has the deadline of an opening of its flow, and has not arrived after now.
+-- every slot was open; the missed counts never fall; each accepted cell came to a flow with the deadline of one of its openings, and has not arrived after now.
 use mathlib.Core.Path.{_≡_, refl, sym, ap, _∙_}
 use mathlib.Core.Logic.{inr, _≢_}
 use mathlib.Core.Bool.{Bool, true, false, true≢false}
@@ -31,9 +31,9 @@ use Rattle.guarantee.specs.Conditions.{NoneLost}
 use Rattle.guarantee.proofs.Kept.{before}
 
 -- ---- what a call can add to what is noted of the cells
--- an accepted cell arrives in the slot that is next, with the deadline in force
+-- an accepted cell arrives in the slot that is next, while its flow's deadline is the one in force
 abbrev InForce : Cells → Cell → Type 0
-InForce h a = (a .arrival ≡ h .slot) × (a .deadline ≡ deadlineIn h (a .flow))
+InForce h a = (a .arrival ≡ h .slot) × (a .full ≡ deadlineIn h (a .flow))
 
 -- the history after a turn
 abbrev turnedTo : Cells → Bool → List Gone → ℕ → Cells
@@ -50,7 +50,7 @@ turnedTo h usable sent missed =
 data Step (h : Cells) (call : Call) (reply : Reply) : Cells → Type 0 where
   nothing : Step h call reply h
   mark : (m : Mark) → Step h call reply (marked h m)
-  cell : (a : Cell) → call ≡ OfferCell (a .flow) → refusalIn reply ≡ none → InForce h a → Step h call reply (withCell h a)
+  cell : (a : Cell) → call ≡ OfferCell (a .flow) (a .deadline) → refusalIn reply ≡ none → InForce h a → Step h call reply (withCell h a)
   turn : (usable : Bool) (sent : List Gone) (missed : ℕ) → (usable ≡ false → call ≡ LostTurn) → Step h call reply (turnedTo h usable sent missed)
 
 module _ (h : Cells) where
@@ -70,13 +70,13 @@ module _ (h : Cells) where
   closing flow (Sent f n m) = nothing
   closing flow (Idle m) = nothing
 
-  offering : (flow : ℕ) (answer : Answer) → Step h (OfferCell flow) (Urgent answer) (noteOffer h flow answer)
-  offering flow (Accepted number last) = cell _ refl refl (refl, refl)
-  offering flow (Refused r) = nothing
-  offering flow Opened = nothing
-  offering flow Closed = nothing
-  offering flow (Sent f n m) = nothing
-  offering flow (Idle m) = nothing
+  offering : (flow deadline : ℕ) (answer : Answer) → Step h (OfferCell flow deadline) (Urgent answer) (noteOffer h flow deadline answer)
+  offering flow deadline (Accepted number last) = cell _ refl refl (refl, refl)
+  offering flow deadline (Refused r) = nothing
+  offering flow deadline Opened = nothing
+  offering flow deadline Closed = nothing
+  offering flow deadline (Sent f n m) = nothing
+  offering flow deadline (Idle m) = nothing
 
   turning : (call : Call) (usable : Bool) → (usable ≡ false → call ≡ LostTurn) → (answer : Answer) → Step h call (Urgent answer) (noteTurn h usable answer)
   turning call usable lost (Sent f n m) = turn usable _ m lost
@@ -90,7 +90,7 @@ module _ (h : Cells) where
   step call (Fair answer) = nothing
   step (OpenUrgent flow deadline) (Urgent answer) = opening flow deadline answer
   step (CloseUrgent flow) (Urgent answer) = closing flow answer
-  step (OfferCell flow) (Urgent answer) = offering flow answer
+  step (OfferCell flow deadline) (Urgent answer) = offering flow deadline answer
   step OpenTurn (Urgent answer) = turning OpenTurn true (λ e. absurd (true≢false e)) answer
   step LostTurn (Urgent answer) = turning LostTurn false (λ e. refl) answer
   step (OpenFair flow weight) (Urgent answer) = nothing
@@ -142,31 +142,32 @@ missed-more xs =
     by-calls (λ ys. run xs .cells .missed ≤ run (xs ++ ys) .cells .missed) (rw (append-nil xs) (le-refl (run xs .cells .missed)))
     (λ ys call earlier. rw (append-assoc xs ys (call ∷ [])) at (le-trans earlier (fewer (one-more (xs ++ ys) call))))
 
--- ---- the deadline of an accepted cell is that of an opening of its flow
+-- ---- the deadline of an accepted cell's flow is that of an opening of it
 abbrev pub OfOpening : List Mark → Cell → Type 0
-OfOpening marks a = Some (λ (m : Mark). m ≡ opens (a .flow) (a .deadline)) marks
+OfOpening marks a = Some (λ (m : Mark). m ≡ opens (a .flow) (a .full)) marks
 
 -- a cell is offered with success to an open flow only
-open-then : (xs : List Call) (flow : ℕ) → refusalIn (replyTo xs (OfferCell flow)) ≡ none → openIn (run xs .cells .marks) flow ≡ true
-open-then xs flow r =
-    not-false (openIn (run xs .cells .marks) flow) (none-holds (groundsNoted (run xs) (OfferCell flow)) (sym (promises .S4 xs (OfferCell flow)) ∙ r) .1 .0)
+open-then : (xs : List Call) (flow deadline : ℕ) → refusalIn (replyTo xs (OfferCell flow deadline)) ≡ none → openIn (run xs .cells .marks) flow ≡ true
+open-then xs flow deadline r =
+    not-false (openIn (run xs .cells .marks) flow)
+    (none-holds (groundsNoted (run xs) (OfferCell flow deadline)) (sym (promises .S4 xs (OfferCell flow deadline)) ∙ r) .1 .0)
 
 opening-step : (xs : List Call) (call : Call) {later : Cells} → Step (run xs .cells) call (replyTo xs call) later
     → Each (OfOpening (run xs .cells .marks)) (run xs .cells .accepted) → Each (OfOpening (later .marks)) (later .accepted)
 opening-step xs call nothing e = e
 opening-step xs call (mark m) e = each-map (OfOpening (run xs .cells .marks)) (OfOpening (m ∷ run xs .cells .marks)) (λ a s. inr s) (run xs .cells .accepted) e
-opening-step xs call (cell a o r d) e = (rw (sym (d .1)) at (force-told (run xs .cells .marks) (a .flow) (open-then xs (a .flow) (rw o at r))), e)
+opening-step xs call (cell a o r d) e = (rw (sym (d .1)) at (force-told (run xs .cells .marks) (a .flow) (open-then xs (a .flow) (a .deadline) (rw o at r))), e)
 opening-step xs call (turn usable sent missed lost) e = e
 
 pub openings : (calls : List Call) → Each (OfOpening (run calls .cells .marks)) (run calls .cells .accepted)
 unfolding runFrom
 openings = by-calls (λ xs. Each (OfOpening (run xs .cells .marks)) (run xs .cells .accepted)) tt (λ xs call earlier. opening-step xs call (one-more xs call) earlier)
 
--- so what holds of every opening and closing holds of an opening with the cell's flow and deadline
-pub of-opening : (Q : Mark → Type 0) (marks : List Mark) → Each Q marks → (a : Cell) → OfOpening marks a → Q (opens (a .flow) (a .deadline))
+-- so what holds of every opening and closing holds of an opening with the cell's flow and its flow's deadline
+pub of-opening : (Q : Mark → Type 0) (marks : List Mark) → Each Q marks → (a : Cell) → OfOpening marks a → Q (opens (a .flow) (a .full))
 of-opening Q marks each a o =
-    some-gives (λ (m : Mark). (m ≡ opens (a .flow) (a .deadline)) × Q m) (Q (opens (a .flow) (a .deadline))) (λ m w. rw (w .0) at (w .1)) marks
-    (some-both (λ (m : Mark). m ≡ opens (a .flow) (a .deadline)) Q marks o each)
+    some-gives (λ (m : Mark). (m ≡ opens (a .flow) (a .full)) × Q m) (Q (opens (a .flow) (a .full))) (λ m w. rw (w .0) at (w .1)) marks
+    (some-both (λ (m : Mark). m ≡ opens (a .flow) (a .full)) Q marks o each)
 
 -- ---- no cell arrives after the slot that is next
 abbrev pub Arrived : Cells → Type 0

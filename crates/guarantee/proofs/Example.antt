@@ -31,7 +31,7 @@ use Rattle.promises.specs.Run.{run, runFrom, replyTo}
 use Rattle.promises.proofs.Promises.{promises}
 use Rattle.guarantee.specs.Arrivals.{Arrival, arrivesIn, KeepsDeclaration, AllKeep, NoOthers}
 use Rattle.guarantee.specs.Heaviest.{burstAnd, heaviestFrom}
-use Rattle.guarantee.specs.Conditions.{arrivals, AsDeclared, withOne}
+use Rattle.guarantee.specs.Conditions.{arrivals, AsDeclared, FullDeadlines, withOne}
 use Rattle.guarantee.specs.Example.{declaration, cell, gone, twoFlows, calls, offered, Met, Sixteenth, TooMuch}
 use Rattle.guarantee.proofs.Heaviest.{burst-keeps}
 use Rattle.guarantee.proofs.Turns.{isLost, none-lost}
@@ -50,6 +50,10 @@ history :
     × (run calls .cells .marks ≡ marks)
 unfolding runFrom callOf openOf closeOf offerOf turnOf openFairOf offerPacketOf firstOf count firstFree comesBefore better least inForce
 history = (refl, refl, refl)
+
+full : FullDeadlines calls
+unfolding runFrom callOf openOf closeOf offerOf turnOf openFairOf offerPacketOf firstOf count firstFree comesBefore better least inForce
+full = (refl, (refl, (refl, (refl, (refl, (refl, tt))))))
 
 admitted : admitOf twoFlows ≡ Admitted
 unfolding byNumbers firstOf rateOf greatestOf failsFrom demandOf
@@ -96,6 +100,7 @@ met =
           record {
             admitted = admitted;
             opened = rw (history .2) opened;
+            full = full;
             others = rw (history .0) others;
             keep = rw (history .0) keep;
             turns = none-lost calls all-open;
@@ -108,7 +113,7 @@ held : (run (offered 15) .cells .marks ≡ opens 0 16 ∷ []) × (withOne (offer
 unfolding runFrom callOf openOf offerOf firstOf count firstFree inForce
 held = (refl, refl)
 
-answers : (refusalIn (replyTo (offered 15) (OfferCell 0)) ≡ none) × (refusalIn (replyTo (offered 16) (OfferCell 0)) ≡ some PlacesFull)
+answers : (refusalIn (replyTo (offered 15) (OfferCell 0 16)) ≡ none) × (refusalIn (replyTo (offered 16) (OfferCell 0 16)) ≡ some PlacesFull)
 unfolding runFrom callOf openOf offerOf firstOf count firstFree inForce
 answers = (refl, refl)
 

@@ -17,13 +17,13 @@ use Rattle.station.specs.Calls.{callOf}
 use Rattle.promises.specs.Run.{run, runFrom}
 use Rattle.guarantee.specs.Arrivals.{AllKeep}
 use Rattle.guarantee.specs.Heaviest.{burstAnd}
-use Rattle.guarantee.specs.Conditions.{arrivals}
+use Rattle.guarantee.specs.Conditions.{arrivals, FullDeadlines}
 use Rattle.guarantee.specs.Example.{declaration, cell, caseK}
-use Rattle.guarantee.specs.Needed.{OneMissed, atOnce, pair, twoAtOnce, pairAtOnce, lostAtOnce, Needed}
+use Rattle.guarantee.specs.Needed.{OneMissed, atOnce, pair, twoAtOnce, pairAtOnce, pairCutShort, lostAtOnce, Needed}
 use Rattle.guarantee.proofs.Heaviest.{burst-keeps}
 use Rattle.guarantee.proofs.Turns.{isLost, none-lost}
 
--- the three lists of calls, computed: what is marked and accepted, and the one missed cell
+-- the four lists of calls, computed: what is marked and accepted, and the one missed cell
 two : (run twoAtOnce .cells .marks ≡ opens 1 1 ∷ opens 0 1 ∷ []) × (arrivals twoAtOnce ≡ cell 1 0 ∷ cell 0 0 ∷ []) × OneMissed twoAtOnce
 unfolding runFrom callOf openOf offerOf turnOf firstOf count firstFree comesBefore better least inForce
 two = (refl, refl, refl)
@@ -32,13 +32,22 @@ both : (run pairAtOnce .cells .marks ≡ opens 0 1 ∷ []) × (arrivals pairAtOn
 unfolding runFrom callOf openOf offerOf turnOf firstOf count firstFree comesBefore better least inForce
 both = (refl, refl, refl)
 
+short : (run pairCutShort .cells .marks ≡ opens 0 2 ∷ []) × (arrivals pairCutShort ≡ cell 0 0 ∷ cell 0 0 ∷ []) × OneMissed pairCutShort
+unfolding runFrom callOf openOf offerOf turnOf firstOf count firstFree comesBefore better least inForce
+short = (refl, refl, refl)
+
 lost : (run lostAtOnce .cells .marks ≡ opens 0 1 ∷ []) × (arrivals lostAtOnce ≡ cell 0 0 ∷ []) × OneMissed lostAtOnce
 unfolding runFrom callOf openOf offerOf turnOf firstOf count firstFree comesBefore better least inForce
 lost = (refl, refl, refl)
 
-all-open : (count isLost twoAtOnce ≡ 0) × (count isLost pairAtOnce ≡ 0)
+-- in three of them the cells have their flows' full deadlines
+full : FullDeadlines twoAtOnce × FullDeadlines pairAtOnce × FullDeadlines lostAtOnce
+unfolding runFrom callOf openOf offerOf turnOf firstOf count firstFree comesBefore better least inForce
+full = ((refl, (refl, tt)), (refl, (refl, tt)), (refl, tt))
+
+all-open : (count isLost twoAtOnce ≡ 0) × (count isLost pairAtOnce ≡ 0) × (count isLost pairCutShort ≡ 0)
 unfolding count
-all-open = (refl, refl)
+all-open = (refl, refl, refl)
 
 once-admitted : admitOf atOnce ≡ Admitted
 unfolding byNumbers firstOf rateOf greatestOf failsFrom demandOf
@@ -82,13 +91,22 @@ needed =
     record {
       admitted = (
         rw (two .0) ((λ l. refl), ((λ l. refl), tt)),
+        full .0,
         rw (two .1) (omega arith, (omega arith, tt)),
         rw (two .1) keepK,
         none-lost twoAtOnce (all-open .0),
         two .2,
       );
-      opened = (pair-admitted, rw (both .1) (omega arith, (omega arith, tt)), rw (both .1) keep-pair, none-lost pairAtOnce (all-open .1), both .2);
-      others = (once-admitted, rw (two .0) ((λ l. absurd (omega arith)), ((λ l. refl), tt)), rw (two .1) keep-first, none-lost twoAtOnce (all-open .0), two .2);
-      keep = (once-admitted, rw (both .0) ((λ l. refl), tt), rw (both .1) (omega arith, (omega arith, tt)), none-lost pairAtOnce (all-open .1), both .2);
-      turns = (once-admitted, rw (lost .0) ((λ l. refl), tt), rw (lost .1) (omega arith, tt), rw (lost .1) keep-one, lost .2);
+      opened = (pair-admitted, full .1, rw (both .1) (omega arith, (omega arith, tt)), rw (both .1) keep-pair, none-lost pairAtOnce (all-open .1), both .2);
+      full = (
+        pair-admitted,
+        rw (short .0) ((λ l. refl), tt),
+        rw (short .1) (omega arith, (omega arith, tt)),
+        rw (short .1) keep-pair,
+        none-lost pairCutShort (all-open .2),
+        short .2,
+      );
+      others = (once-admitted, rw (two .0) ((λ l. absurd (omega arith)), ((λ l. refl), tt)), full .0, rw (two .1) keep-first, none-lost twoAtOnce (all-open .0), two .2);
+      keep = (once-admitted, rw (both .0) ((λ l. refl), tt), full .1, rw (both .1) (omega arith, (omega arith, tt)), none-lost pairAtOnce (all-open .1), both .2);
+      turns = (once-admitted, rw (lost .0) ((λ l. refl), tt), full .2, rw (lost .1) (omega arith, tt), rw (lost .1) keep-one, lost .2);
     }

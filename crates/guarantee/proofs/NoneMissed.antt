@@ -37,7 +37,7 @@ same-windows ds (a ∷ cells) e = rw (e .0, same-windows ds cells (e .1))
 module _ (ds : List Declaration) (fits : Fits ds) (enough : Keeps ds) (h : Cells) (every : EverySlot h)
     (full : Each (Full ds) (h .accepted)) (within : WithinDeclarations ds (map arrivalOf (h .accepted)))
   where
-    not-missed : (a : Cell) → (a .last ≡ windowOf a .last) × (1 ≤ a .deadline) → (isMissed h a ≡ true → Overloaded (windows h) (h .usable) (windowOf a))
+    not-missed : (a : Cell) → (a .last ≡ windowOf a .last) × (1 ≤ a .deadline) × (a .deadline ≤ a .full) → (isMissed h a ≡ true → Overloaded (windows h) (h .usable) (windowOf a))
         → isMissed h a ≡ false
     not-missed a n why = go (isMissed h a) refl
       where
@@ -55,13 +55,13 @@ module _ (ds : List Declaration) (fits : Fits ds) (enough : Keeps ds) (h : Cells
         each-map _ (λ (a : Cell). isMissed h a ≡ false) (λ a w. not-missed a (w .0) (w .1)) (h .accepted)
         (each-both _ (λ (a : Cell). isMissed h a ≡ true → Overloaded (windows h) (h .usable) (windowOf a)) (h .accepted) n why)
 
--- each accepted cell is of a declared flow, with the deadline of an opening: the declared one
+-- each accepted cell is of a declared flow and has its full deadline, which is that of an opening: the declared one
 all-full : (ds : List Declaration) (calls : List Call) → Conditions ds calls → Each (Full ds) (run calls .cells .accepted)
 all-full ds calls c =
-    each-map (λ (a : Cell). OfOpening (run calls .cells .marks) a × (a .flow < length ds)) (Full ds)
-    (λ a w. of-opening (AsDeclared ds) (run calls .cells .marks) (c .opened) a (w .0) (w .1)) (run calls .cells .accepted)
+    each-map _ (Full ds) (λ a w. w .0 ∙ of-opening (AsDeclared ds) (run calls .cells .marks) (c .opened) a (w .1 .0) (w .1 .1)) (run calls .cells .accepted)
+    (each-both (λ (a : Cell). a .deadline ≡ a .full) _ (run calls .cells .accepted) (c .full)
     (each-both (OfOpening (run calls .cells .marks)) (λ (a : Cell). a .flow < length ds) (run calls .cells .accepted) (openings calls)
-    (each-made arrivalOf (λ (a : Arrival). a .flow < length ds) (run calls .cells .accepted) (c .others)))
+    (each-made arrivalOf (λ (a : Arrival). a .flow < length ds) (run calls .cells .accepted) (c .others))))
 
 pub G1 : (ds : List Declaration) (calls : List Call) → Conditions ds calls → NoneMissed (run calls .cells)
 G1 ds calls c =

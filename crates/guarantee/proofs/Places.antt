@@ -11,7 +11,7 @@ use borrow.Author.Tests.{eqb-true, eq-eqb, le-leb, lt-leb, lt-ltb}
 use lib.Dec.{eqb}
 use Rattle.units.specs.Refusals.{numberOf}
 use Rattle.units.specs.declared.Refusal.{Refusal}
-use Rattle.units.specs.declared.Refusal.the-variants.{NoSuchFlow, NotOpen, PlacesFull, SlotsUsedUp}
+use Rattle.units.specs.declared.Refusal.the-variants.{NoSuchFlow, NotOpen, PlacesFull, SlotsUsedUp, BadDeadline}
 use Rattle.units.proofs.Refusals.{Unheld, not-given}
 use Rattle.places.specs.Places.{count}
 use Rattle.places.specs.Members.{Each}
@@ -33,9 +33,9 @@ use Rattle.guarantee.specs.Arrivals.{Arrival, arrivesIn, KeepsDeclaratio
 use Rattle.guarantee.specs.Conditions.{arrivalOf, arrivals, OpenedWith, withOne, HaveRoom}
 use Rattle.guarantee.proofs.Calls.{arrived, OfOpening, openings, of-opening}
 
--- what is known of an accepted cell, if its flow is one with deadline D
+-- what is known of an accepted cell, if its flow is one with deadline D: its own is no longer
 abbrev Known : Cells → ℕ → ℕ → Cell → Type 0
-Known h flow D a = (a .arrival ≤ h .slot) × (a .flow ≡ flow → a .deadline ≡ D) × (a .last ≡ windowOf a .last)
+Known h flow D a = (a .arrival ≤ h .slot) × (a .flow ≡ flow → a .full ≡ D) × (a .last ≡ windowOf a .last) × (a .deadline ≤ a .full)
 
 module _ (h : Cells) (flow D : ℕ) (long : 1 ≤ D) where
   -- a cell arrives in the D slots up to now
@@ -46,7 +46,7 @@ module _ (h : Cells) (flow D : ℕ) (long : 1 ≤ D) where
   waits-recent a w e =
       let own = and-told (eqb (a .flow) flow) (waits h a) e in
       let f : a .flow ≡ flow = eqb-true (a .flow) flow (own .0) in
-      rw (eq-eqb (a .flow) flow f, le-leb (h .slot + 1 - D) (a .arrival) (omega (arith, waits-told h a (own .1) .1, w .1 f, w .2)))
+      rw (eq-eqb (a .flow) flow f, le-leb (h .slot + 1 - D) (a .arrival) (omega (arith, waits-told h a (own .1) .1, w .1 f, w .2, w .3)))
       (lt-ltb (a .arrival) (h .slot + 1 - D + D) (omega (arith, w .0)))
 
   few-wait : Each (Known h flow D) (h .accepted) → waitingIn h flow ≤ count recent (map arrivalOf (h .accepted))
@@ -64,9 +64,9 @@ module _ (h : Cells) (flow D : ℕ) (long : 1 ≤ D) where
 module _ (d : Declaration) (flow : ℕ) (calls : List Call) (opened : Each (OpenedWith flow (d .deadline)) (run calls .cells .marks)) where
   all-known : Each (Known (run calls .cells) flow (d .deadline)) (run calls .cells .accepted)
   all-known =
-      each-map _ (Known (run calls .cells) flow (d .deadline)) (λ a w. (w .0, of-opening (OpenedWith flow (d .deadline)) (run calls .cells .marks) opened a (w .1 .0), w .1 .1 .0)) (run calls .cells .accepted)
+      each-map _ (Known (run calls .cells) flow (d .deadline)) (λ a w. (w .0, of-opening (OpenedWith flow (d .deadline)) (run calls .cells .marks) opened a (w .1 .0), w .1 .1 .0, w .1 .1 .2)) (run calls .cells .accepted)
       (each-both (λ (a : Cell). a .arrival ≤ run calls .cells .slot) _ (run calls .cells .accepted) (arrived calls)
-      (each-both (OfOpening (run calls .cells .marks)) (λ (a : Cell). (a .last ≡ windowOf a .last) × (1 ≤ a .deadline)) (run calls .cells .accepted) (openings calls)
+      (each-both (OfOpening (run calls .cells .marks)) (λ (a : Cell). (a .last ≡ windowOf a .last) × (1 ≤ a .deadline) × (a .deadline ≤ a .full)) (run calls .cells .accepted) (openings calls)
       (promises .U3-windows calls)))
 
   fewer-wait : 1 ≤ d .deadline → KeepsDeclaration d flow (withOne calls flow) → HaveRoom d → waitingIn (run calls .cells) flow < 16
@@ -83,14 +83,17 @@ module _ (d : Declaration) (flow : ℕ) (calls : List Call) (opened : Each (Open
 other : (r : Refusal) → (numberOf r ≡ 5 → ⊥) → r ≡ PlacesFull → ⊥
 other r n q = n (ap numberOf q)
 
-pub G1-places : (d : Declaration) (flow : ℕ) (calls : List Call) → Within d → Each (OpenedWith flow (d .deadline)) (run calls .cells .marks)
+pub G1-places : (d : Declaration) (flow deadline : ℕ) (calls : List Call) → Within d → Each (OpenedWith flow (d .deadline)) (run calls .cells .marks)
     → KeepsDeclaration d flow (withOne calls flow) → HaveRoom d
-    → refusalIn (replyTo calls (OfferCell flow)) ≢ some PlacesFull
-G1-places d flow calls good opened keeps room e =
+    → refusalIn (replyTo calls (OfferCell flow deadline)) ≢ some PlacesFull
+G1-places d flow deadline calls good opened keeps room e =
     let free = lt-leb 16 (waitingIn (run calls .cells) flow) (fewer-wait d flow calls opened (good .2 .0) keeps room) in
-    let unheld : Unheld PlacesFull (groundsNoted (run calls) (OfferCell flow)) = (
+    let unheld : Unheld PlacesFull (groundsNoted (run calls) (OfferCell flow deadline)) = (
       (λ q. absurd (other NoSuchFlow (omega arith) q)),
-      ((λ q. absurd (other NotOpen (omega arith) q)), ((λ q. free), ((λ q. absurd (other SlotsUsedUp (omega arith) q)), tt))),
+      (
+        (λ q. absurd (other NotOpen (omega arith) q)),
+        ((λ q. absurd (other BadDeadline (omega arith) q)), ((λ q. free), ((λ q. absurd (other SlotsUsedUp (omega arith) q)), tt))),
+      ),
     )
     in
-    not-given PlacesFull (groundsNoted (run calls) (OfferCell flow)) unheld (sym (promises .S4 calls (OfferCell flow)) ∙ e)
+    not-given PlacesFull (groundsNoted (run calls) (OfferCell flow deadline)) unheld (sym (promises .S4 calls (OfferCell flow deadline)) ∙ e)

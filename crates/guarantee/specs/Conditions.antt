@@ -33,6 +33,10 @@ AsDeclared ds (closes flow) = Unit {0}
 abbrev pub OpenedAsDeclared : List Declaration → List Call → Type 0
 OpenedAsDeclared ds calls = Each (AsDeclared ds) (run calls .cells .marks)
 
+-- every accepted cell has its flow's full deadline, and none a shorter one of its own
+abbrev pub FullDeadlines : List Call → Type 0
+FullDeadlines calls = Each (λ (a : Cell). a .deadline ≡ a .full) (run calls .cells .accepted)
+
 -- every turn is open
 abbrev pub NoneLost : List Call → Type 0
 NoneLost calls = Each (λ (call : Call). call ≢ LostTurn) calls
@@ -42,6 +46,8 @@ pub record Conditions (ds : List Declaration) (calls : List Call) : Type 0 where
   pub admitted : admitOf ds ≡ Admitted
   -- declaration i is that of flow i: each flow is opened with its deadline
   pub opened : OpenedAsDeclared ds calls
+  -- each accepted cell has its flow's full deadline
+  pub full : FullDeadlines calls
   -- no other flow has accepted cells
   pub others : NoOthers ds (arrivals calls)
   -- the accepted cells of each flow keep its declaration

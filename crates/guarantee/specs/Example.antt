@@ -36,32 +36,33 @@ gone flow number slot = record { flow = flow; number = number; slot = slot }
 abbrev pub twoFlows : List Declaration
 twoFlows = declaration 2 4 3 ∷ declaration 1 2 2 ∷ []
 
--- from slot 1 on both flows bring all that they may. Besides, flow 1 is closed and opened again, flow 5 is opened and has no cell, a cell is
--- refused, and a packet comes and goes
+-- from slot 1 on both flows bring all that they may. Besides, flow 1 is closed and opened again, flow 5 is opened and has no cell, two cells
+-- are refused, one of a flow that is not open and one that would wait too long, and a packet comes and goes
 abbrev pub calls : List Call
 calls =
     OpenUrgent 0 3
     ∷ OpenUrgent 1 2
     ∷ OpenUrgent 5 9
     ∷ OpenTurn
-    ∷ OfferCell 0
-    ∷ OfferCell 0
-    ∷ OfferCell 1
+    ∷ OfferCell 0 3
+    ∷ OfferCell 0 3
+    ∷ OfferCell 1 2
     ∷ OpenTurn
     ∷ OpenTurn
-    ∷ OfferCell 1
+    ∷ OfferCell 1 2
     ∷ OpenTurn
     ∷ OpenTurn
     ∷ CloseUrgent 1
     ∷ OpenUrgent 1 2
-    ∷ OfferCell 6
+    ∷ OfferCell 6 1
+    ∷ OfferCell 0 4
     ∷ OpenFair 0 1
     ∷ OfferPacket 0 100
     ∷ Begin
     ∷ End
     ∷ CloseFair 0
-    ∷ OfferCell 0
-    ∷ OfferCell 1
+    ∷ OfferCell 0 3
+    ∷ OfferCell 1 2
     ∷ OpenTurn
     ∷ OpenTurn
     ∷ OpenTurn
@@ -69,7 +70,7 @@ calls =
 
 -- a flow is opened, of which sixteen cells may come at once, and so many are offered
 abbrev pub offered : ℕ → List Call
-offered n = OpenUrgent 0 16 ∷ replicate n (OfferCell 0)
+offered n = OpenUrgent 0 16 ∷ replicate n (OfferCell 0 16)
 
 -- case K
 abbrev pub caseK : List Declaration
@@ -91,8 +92,8 @@ pub record Sixteenth : Type 0 where
   pub room : HaveRoom (declaration 16 5040 16)
   pub opened : Each (OpenedWith 0 16) (run (offered 15) .cells .marks)
   pub keeps : KeepsDeclaration (declaration 16 5040 16) 0 (withOne (offered 15) 0)
-  pub taken : refusalIn (replyTo (offered 15) (OfferCell 0)) ≡ none
-  pub full : refusalIn (replyTo (offered 16) (OfferCell 0)) ≡ some PlacesFull
+  pub taken : refusalIn (replyTo (offered 15) (OfferCell 0 16)) ≡ none
+  pub full : refusalIn (replyTo (offered 16) (OfferCell 0 16)) ≡ some PlacesFull
 
 -- case K fails at 1: two cells arrive in slot 0, and both have to go in slot 0; and the client's list is too fast
 pub record TooMuch : Type 0 where

@@ -46,12 +46,12 @@ pub record Guarantee : Type 0 where
   -- the conditions can be met, and none of them can be left out
   pub G1-met : Met
   pub G1-needed : Needed
-  -- of one flow and its declaration, whatever other flows do and whichever turns are lost: a cell with which the flow keeps it is not refused for
-  -- want of a place, if there are places for all that may come within its deadline
+  -- of one flow and its declaration, whatever other flows do, whichever turns are lost and whatever deadlines the cells have: a cell with which the
+  -- flow keeps it is not refused for want of a place, if there are places for all that may come within the flow's deadline
   pub G1-places :
-      (d : Declaration) (flow : ℕ) (calls : List Call) → Within d → Each (OpenedWith flow (d .deadline)) (run calls .cells .marks)
+      (d : Declaration) (flow deadline : ℕ) (calls : List Call) → Within d → Each (OpenedWith flow (d .deadline)) (run calls .cells .marks)
       → KeepsDeclaration d flow (withOne calls flow) → HaveRoom d
-      → refusalIn (replyTo calls (OfferCell flow)) ≢ some PlacesFull
+      → refusalIn (replyTo calls (OfferCell flow deadline)) ≢ some PlacesFull
   -- as the sixteenth of sixteen is not
   pub G1-sixteenth : Sixteenth
   -- G2: of a list that fails at t the heaviest cells by t are within the declarations, and nobody could send them all
