@@ -14,9 +14,9 @@ urgentCase =
     record {
       answered =
           toldBy freshStation
-          (OpenUrgent 0 2 ∷ OfferCell 0 ∷ CloseUrgent 0 ∷ OpenTurn ∷ CloseUrgent 0 ∷ CloseUrgent 0 ∷ OfferCell 0 ∷ CloseUrgent 16
+          (OpenUrgent 0 2 ∷ OfferCell 0 2 ∷ CloseUrgent 0 ∷ OpenTurn ∷ CloseUrgent 0 ∷ CloseUrgent 0 ∷ OfferCell 0 2 ∷ CloseUrgent 16
           ∷ OpenUrgent 0 5
-          ∷ OfferCell 0
+          ∷ OfferCell 0 5
           ∷ []);
       expected =
           ok ∷ values (0 ∷ 1 ∷ []) ∷ no 12 ∷ values (0 ∷ 0 ∷ 0 ∷ []) ∷ ok ∷ no 2 ∷ no 2 ∷ no 1
@@ -58,5 +58,5 @@ pub record Closings : Type 0 where
   pub urgent : urgentCase .answered ≡ urgentCase .expected
   pub fair : fairCase .answered ≡ fairCase .expected
   pub session :
-      sessionOf (bytesOf "U 0 2\nu 0\nC 0\nc 0\nF 0 1\nt\nC 0\nu 0\nc 0\n")
+      sessionOf (bytesOf "U 0 2\nu 0 2\nC 0\nc 0\nF 0 1\nt\nC 0\nu 0 2\nc 0\n")
       ≡ bytesOf "ok\nok 0 1\nno 12\nno 2\nok\nsent 0 0 missed 0\nok\nno 2\nok\n"

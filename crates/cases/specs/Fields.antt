@@ -7,7 +7,7 @@ pub record Fields : Type 0 where
   -- three flows have a cell each for slots 0 and 1: slot 0 is lost, and the turn of slot 1 sends one and misses two; of the next two
   -- cells one is sent, and the other is missed in a lost turn
   pub urgent :
-      sessionOf (bytesOf "U 5 2\nU 6 2\nU 7 2\nu 5\nu 6\nu 7\nx\nt\nu 5\nu 5\nt\nx\n")
+      sessionOf (bytesOf "U 5 2\nU 6 2\nU 7 2\nu 5 2\nu 6 2\nu 7 2\nx\nt\nu 5 2\nu 5 2\nt\nx\n")
       ≡ bytesOf "ok\nok\nok\nok 0 1\nok 0 1\nok 0 1\nidle missed 0\nsent 5 0 missed 2\nok 1 3\nok 2 3\nsent 5 1 missed 0\nidle missed 1\n"
   -- flow 2, of weight 16, has its second packet begun and ended
   pub fair :

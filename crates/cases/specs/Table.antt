@@ -92,21 +92,21 @@ C = record { answered = values (1500 * chargeOf 1 ∷ 1500 * chargeOf 16 ∷ [])
 abbrev pub D : Case
 D =
     record {
-      answered = toldBy freshStation (OpenUrgent 0 3 ∷ OpenUrgent 1 1 ∷ OfferCell 0 ∷ OfferCell 1 ∷ OpenTurn ∷ OpenTurn ∷ []);
+      answered = toldBy freshStation (OpenUrgent 0 3 ∷ OpenUrgent 1 1 ∷ OfferCell 0 3 ∷ OfferCell 1 1 ∷ OpenTurn ∷ OpenTurn ∷ []);
       expected = ok ∷ ok ∷ values (0 ∷ 2 ∷ []) ∷ values (0 ∷ 0 ∷ []) ∷ values (1 ∷ 0 ∷ 0 ∷ []) ∷ values (0 ∷ 0 ∷ 0 ∷ []) ∷ [];
     }
 
 abbrev pub E : Case
 E =
     record {
-      answered = toldBy freshStation (OpenUrgent 0 1 ∷ OfferCell 0 ∷ LostTurn ∷ []);
+      answered = toldBy freshStation (OpenUrgent 0 1 ∷ OfferCell 0 1 ∷ LostTurn ∷ []);
       expected = ok ∷ values (0 ∷ 0 ∷ []) ∷ values (1 ∷ []) ∷ [];
     }
 
 abbrev pub F : Case
 F =
     record {
-      answered = toldBy freshStation (OpenUrgent 0 2 ∷ OfferCell 0 ∷ OfferCell 0 ∷ OfferCell 0 ∷ OpenTurn ∷ OpenTurn ∷ []);
+      answered = toldBy freshStation (OpenUrgent 0 2 ∷ OfferCell 0 2 ∷ OfferCell 0 2 ∷ OfferCell 0 2 ∷ OpenTurn ∷ OpenTurn ∷ []);
       expected =
           ok
           ∷ values (0 ∷ 1 ∷ [])
@@ -120,7 +120,7 @@ F =
 abbrev pub H : Case
 H =
     record {
-      answered = toldBy (freshAt 3999999999) (OpenUrgent 0 1 ∷ OpenUrgent 1 2 ∷ OfferCell 0 ∷ OfferCell 1 ∷ []);
+      answered = toldBy (freshAt 3999999999) (OpenUrgent 0 1 ∷ OpenUrgent 1 2 ∷ OfferCell 0 1 ∷ OfferCell 1 2 ∷ []);
       expected = ok ∷ ok ∷ values (0 ∷ 3999999999 ∷ []) ∷ no 7 ∷ [];
     }
 
