@@ -35,6 +35,14 @@ unfolding eventParts eventsAt
 events-good n form s at zero a = tt
 events-good n form s at (suc k) a = (a .0 .1, events-good n form s (at + 4) k (a .1))
 
+pub good-log : (s : List ℕ) → Sound s → GoodLog (logAt s)
+good-log s h =
+    record {
+      urgent = openings-good (length s) mostDeadline 0 s 25 (urgentLength s / 3) (h .urgent);
+      fair = openings-good (length s) mostWeight 0 s (fairStart s) (fairLength s / 3) (h .fair);
+      events = events-good (length s) (formAt s) s (eventStart s) (eventLength s / 4) (h .events);
+    }
+
 module _ (s : List ℕ) (b : Bytes s) where
   openings-back : (at k end : ℕ) → end ≡ at + 3 * k → end ≤ length s → drop at s ≡ openingBytes (openingsAt s at k) ++ drop end s
   unfolding openingsAt openingBytes
@@ -102,14 +110,6 @@ module _ (s : List ℕ) (b : Bytes s) where
         ∙ ap (λ (t : List ℕ). tableBytes (urgentLength s) (fairLength s) (eventLength s) ++ t) bodies
         ∙ ap (λ (x : List ℕ). x ++ (openingBytes (logAt s .urgent) ++ (openingBytes (logAt s .fair) ++ eventBytes (logAt s .events)))) (sym t)))
 
-    pub good-log : GoodLog (logAt s)
-    good-log =
-        record {
-          urgent = openings-good (length s) mostDeadline 0 s 25 (urgentLength s / 3) (h .urgent);
-          fair = openings-good (length s) mostWeight 0 s (fairStart s) (fairLength s / 3) (h .fair);
-          events = events-good (length s) (formAt s) s (eventStart s) (eventLength s / 4) (h .events);
-        }
-
     pub log-fits : Fits (logAt s)
     log-fits = omega (arith, urgent-many, fair-many, event-many, h .table .most)
 
@@ -118,7 +118,7 @@ is-read s log b =
     read-cases s (λ r. r ≡ Good log → (bytesOf log ≡ s) × GoodLog log × Fits log)
     (λ x e q. absurd (let z : _≡_ {A = ℕ} 0 1 = cc in omega arith))
     (λ c l q. absurd (let z : _≡_ {A = ℕ} 0 1 = cc in omega arith))
-    (λ c l q. let g : logAt s ≡ log = cc in carried log g (all-back s b c l, good-log s b c l, log-fits s b c l))
+    (λ c l q. let g : logAt s ≡ log = cc in carried log g (all-back s b c l, good-log s c, log-fits s b c l))
   where
     carried : (log : Log) → logAt s ≡ log → (bytesOf (logAt s) ≡ s) × GoodLog (logAt s) × Fits (logAt s) → (bytesOf log ≡ s) × GoodLog log × Fits log
     carried log g = subst (λ (x : Log). (bytesOf x ≡ s) × GoodLog x × Fits x) g

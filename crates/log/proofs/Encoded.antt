@@ -44,7 +44,7 @@ openings most least (o ∷ os) g =
     let f = opening-flow most least (o .flow) (o .number) (g .0) in
     (omega (arith, f .1), (low (o .number), (low (o .number / 256), openings most (o .flow + 1) os (g .1))))
 
-event-bytes : (form : Form) (kind flow number : ℕ) → badEvent form kind flow number ≡ false → (kind < 256) × (flow < 256)
+pub event-bytes : (form : Form) (kind flow number : ℕ) → badEvent form kind flow number ≡ false → (kind < 256) × (flow < 256)
 event-bytes form kind flow number = go (eqb kind 3) refl (eqb kind 2) refl
   where
     go : (a : Bool) → eqb kind 3 ≡ a → (b : Bool) → eqb kind 2 ≡ b

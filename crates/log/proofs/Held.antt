@@ -7,15 +7,16 @@ use lib.ListN.{length}
 use Rattle.log.specs.declared.Contents.{Contents}
 use Rattle.log.specs.declared.Verdict.{Verdict}
 use Rattle.log.specs.declared.Verdict.the-variants.{Good as whole, Refused}
-use Rattle.log.specs.Format.{mostBytes}
+use Rattle.log.specs.Format.{GoodLog, mostBytes}
 use Rattle.log.specs.Faults.{formAt, urgentLength, fairLength, eventLength, fairStart, eventStart, logEnd}
 use Rattle.log.specs.Reading.{Good, logAt, contentsOf, readOf, verdictOf}
 use Rattle.log.proofs.Faults.{Sound, read-cases}
-use Rattle.log.proofs.Back.{openings-many, events-many}
+use Rattle.log.proofs.Back.{openings-many, events-many, good-log}
 
--- the log that stands in the bytes, its counts by the table, and where it ends
+-- the log that stands in the bytes, that it is good, its counts by the table, and where it ends
 pub record Held (s : List ℕ) (c : Contents) : Type 0 where
   pub reads : readOf s ≡ Good (logAt s)
+  pub good : GoodLog (logAt s)
   pub form : c .form ≡ formAt s
   pub urgent : c .urgent ≡ urgentLength s / 3
   pub fair : c .fair ≡ fairLength s / 3
@@ -39,6 +40,7 @@ module _ (s : List ℕ) (c : Contents) where
       let e : c .events ≡ eventLength s / 4 = ap (λ (d : Contents). d .events) is ∙ events-many s (eventStart s) (eventLength s / 4) in
       record {
         reads = reads;
+        good = good-log s h;
         form = ap (λ (d : Contents). d .form) is;
         urgent = u;
         fair = f;

@@ -15,3 +15,4 @@ pub mod Pairs
 pub mod Laws
 pub mod Words
 pub mod Held
+pub mod Own

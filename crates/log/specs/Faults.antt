@@ -1,14 +1,15 @@
 -- What is wrong with bytes, and where: each refusal's sentence by itself, with no order among them.
 use mathlib.Core.Path.{_≡_}
-use mathlib.Core.Bool.{true}
+use mathlib.Core.Bool.{true, cond}
 use mathlib.Core.List.{List}
 use mathlib.Core.Logic.{_⊎_}
 use Prim.Native.Nat.{ℕ, zero, suc, _+_, _*_, _≤_, _<_}
+use lib.Dec.{eqb}
 use lib.ListN.{length, getD}
 use Rattle.log.specs.declared.Fault.{Fault}
 use Rattle.log.specs.declared.Fault.the-variants.{FirstByte, TableField, BadRecord, EndsEarly, ByteTooMany}
 use Rattle.log.specs.declared.Form.{Form}
-use Rattle.log.specs.declared.Form.the-variants.{Flow}
+use Rattle.log.specs.declared.Form.the-variants.{Flow, Own}
 use Rattle.log.specs.Format.{firstByte, badOpening, badEvent, mostDeadline, mostWeight, mostBytes}
 
 -- ---- what stands at a place, the lowest byte first; past the end every byte is 0
@@ -29,7 +30,7 @@ fourAt s at = fourOf (byteAt s at) (byteAt s (at + 1)) (byteAt s (at + 2)) (byte
 
 -- the form that a first byte tells; one that tells none is a fault
 unfoldable pub formOf : ℕ → Form
-formOf first = Flow
+formOf first = cond (eqb first 2) Own Flow
 
 abbrev pub formAt : List ℕ → Form
 formAt s = formOf (byteAt s 0)

@@ -5,16 +5,16 @@ use mathlib.Core.List.{List, [], _∷_, _++_}
 use Prim.Native.Nat.{ℕ, _+_, _*_, _/_, _%_, _≤_, _<_}
 use lib.Dec.{ltb, eqb}
 use lib.ListN.{length}
-use Rattle.units.specs.Limits.{noSuchFlow, outsideOf, badLength}
+use Rattle.units.specs.Limits.{noSuchFlow, outsideOf, badDeadline, badLength}
 use Rattle.log.specs.declared.Form.{Form}
-use Rattle.log.specs.declared.Form.the-variants.{Flow}
+use Rattle.log.specs.declared.Form.the-variants.{Flow, Own}
 
 -- a flow and its deadline or weight
 pub record Opening : Type 0 where
   pub flow : ℕ
   pub number : ℕ
 
--- the kind is 0 for an open turn, 1 for a lost one, 2 for a cell, 3 for a packet, 4 for a begin, 5 for an end; number is the packet's length
+-- the kind is 0 for an open turn, 1 for a lost one, 2 for a cell, 3 for a packet, 4 for a begin, 5 for an end; number is a packet's length or, in a log of form Own, a cell's deadline
 pub record Event : Type 0 where
   pub kind : ℕ
   pub flow : ℕ
@@ -38,9 +38,10 @@ mostWeight = 16
 abbrev pub badOpening : ℕ → ℕ → ℕ → ℕ → Bool
 badOpening most least flow number = ltb flow least || noSuchFlow flow || outsideOf number most
 
--- the number of a cell, by the log's form: where the flow's deadline holds, none is told
+-- the number of a cell, by the log's form: where the flow's deadline holds, none is told; else it is the cell's own deadline
 abbrev pub badCell : Form → ℕ → Bool
 badCell Flow number = ltb 0 number
+badCell Own number = badDeadline number
 
 -- an event's fields are within their limits, and those that its kind does not use are zero
 abbrev pub badEvent : Form → ℕ → ℕ → ℕ → Bool
@@ -67,6 +68,7 @@ pub record GoodLog (log : Log) : Type 0 where
 -- a log's first byte tells its form
 abbrev pub firstByte : Form → ℕ
 firstByte Flow = 1
+firstByte Own = 2
 
 abbrev pub fourBytes : ℕ → List ℕ
 fourBytes n = n % 256 ∷ n / 256 % 256 ∷ n / 65536 % 256 ∷ n / 16777216 % 256 ∷ []

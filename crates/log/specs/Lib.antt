@@ -1,5 +1,6 @@
 pub mod Format
 pub mod Words
+pub mod Own
 pub mod Refusals
 pub mod Faults
 pub mod Reading

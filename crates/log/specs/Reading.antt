@@ -58,7 +58,7 @@ firstFault n (p ∷ ps) =
 
 -- whether a first byte tells a form
 abbrev pub isFirst : ℕ → Bool
-isFirst first = eqb first 1
+isFirst first = eqb first 1 || eqb first 2
 
 abbrev pub field : ℕ → Bool → Part
 field at bad = record { start = at; size = 4; bad = bad; fault = TableField }

@@ -3,12 +3,12 @@ use mathlib.Core.Path.{_≡_}
 use mathlib.Core.List.{List, [], _∷_, map}
 use Prim.Native.Nat.{ℕ}
 use Rattle.log.specs.declared.Fault.the-variants.{FirstByte, TableField, BadRecord, EndsEarly, ByteTooMany}
-use Rattle.log.specs.declared.Form.the-variants.{Flow}
+use Rattle.log.specs.declared.Form.the-variants.{Flow, Own}
 use Rattle.log.specs.Format.{Opening, Event, Log, bytesOf}
 use Rattle.log.specs.Refusals.{faultNumber}
 use Rattle.log.specs.Reading.{Good, Bad, readOf}
 use Rattle.log.specs.Pairs.{tailOf, differenceOf}
-use mathlib.Core.Option.{some}
+use mathlib.Core.Option.{none, some}
 
 abbrev pub opening : ℕ → ℕ → Opening
 opening flow number = record { flow = flow; number = number }
@@ -51,13 +51,23 @@ smallBytes eventLength more =
 abbrev pub twoUrgent : ℕ → ℕ → List ℕ
 twoUrgent one other = 1 ∷ 25 ∷ 0 ∷ 0 ∷ 0 ∷ 6 ∷ 0 ∷ 0 ∷ 0 ∷ 31 ∷ 0 ∷ 0 ∷ 0 ∷ 0 ∷ 0 ∷ 0 ∷ 0 ∷ 31 ∷ 0 ∷ 0 ∷ 0 ∷ 0 ∷ 0 ∷ 0 ∷ 0 ∷ one ∷ 9 ∷ 0 ∷ other ∷ 9 ∷ 0 ∷ []
 
+-- events and no openings, in a log with this first byte
+abbrev pub onlyEvents : ℕ → ℕ → List ℕ → List ℕ
+onlyEvents first eventLength events = first ∷ 25 ∷ 0 ∷ 0 ∷ 0 ∷ 0 ∷ 0 ∷ 0 ∷ 0 ∷ 25 ∷ 0 ∷ 0 ∷ 0 ∷ 0 ∷ 0 ∷ 0 ∷ 0 ∷ 25 ∷ 0 ∷ 0 ∷ 0 ∷ eventLength ∷ 0 ∷ 0 ∷ 0 ∷ events
+
+-- a cell of flow 2 with its own deadline 4,096, and one of flow 3 with 1
+abbrev pub ownCells : Log
+ownCells = record { form = Own; urgent = []; fair = []; events = event 2 2 4096 ∷ event 2 3 1 ∷ [] }
+
 pub record Worked : Type 0 where
   pub empty : bytesOf emptyLog ≡ emptyBytes
   pub empty-read : readOf emptyBytes ≡ Good emptyLog
   pub small : bytesOf (smallLog []) ≡ smallBytes 16 []
   pub small-read : readOf (smallBytes 16 []) ≡ Good (smallLog [])
-  -- 20: a first byte 2; no byte at all is 23
-  pub no-20 : readOf (2 ∷ []) ≡ Bad FirstByte 0
+  pub own : bytesOf ownCells ≡ onlyEvents 2 8 (2 ∷ 2 ∷ 0 ∷ 16 ∷ 2 ∷ 3 ∷ 1 ∷ 0 ∷ [])
+  pub own-read : readOf (onlyEvents 2 8 (2 ∷ 2 ∷ 0 ∷ 16 ∷ 2 ∷ 3 ∷ 1 ∷ 0 ∷ [])) ≡ Good ownCells
+  -- 20: a first byte 3; no byte at all is 23
+  pub no-20 : readOf (3 ∷ []) ≡ Bad FirstByte 0
   pub no-bytes : readOf [] ≡ Bad EndsEarly 0
   -- 21: an offset of 26; an opening length of 4, of 51; an event length of 15, and one of 4,294,967,292
   pub no-21-offset : readOf (1 ∷ 26 ∷ 0 ∷ 0 ∷ 0 ∷ []) ≡ Bad TableField 1
@@ -71,6 +81,10 @@ pub record Worked : Type 0 where
   pub no-22-falling : readOf (twoUrgent 3 2) ≡ Bad BadRecord 28
   pub no-22-equal : readOf (twoUrgent 2 2) ≡ Bad BadRecord 28
   pub rising : readOf (twoUrgent 2 3) ≡ Good (record { form = Flow; urgent = opening 2 9 ∷ opening 3 9 ∷ []; fair = []; events = [] })
+  -- and a second cell with its own deadline 0, with 4,097; and a cell with a deadline in a log that tells none
+  pub no-22-zero : readOf (onlyEvents 2 8 (2 ∷ 2 ∷ 0 ∷ 16 ∷ 2 ∷ 3 ∷ 0 ∷ 0 ∷ [])) ≡ Bad BadRecord 29
+  pub no-22-late : readOf (onlyEvents 2 8 (2 ∷ 2 ∷ 0 ∷ 16 ∷ 2 ∷ 3 ∷ 1 ∷ 16 ∷ [])) ≡ Bad BadRecord 29
+  pub no-22-told : readOf (onlyEvents 1 4 (2 ∷ 2 ∷ 1 ∷ 0 ∷ [])) ≡ Bad BadRecord 25
   -- 23: an event cut after its third byte, at the end of the bytes, and a field that is not whole
   pub no-23 : readOf (smallBytes 20 (5 ∷ 1 ∷ 0 ∷ [])) ≡ Bad EndsEarly 50
   pub no-23-field : readOf (1 ∷ 26 ∷ 0 ∷ 0 ∷ []) ≡ Bad EndsEarly 4
@@ -79,6 +93,12 @@ pub record Worked : Type 0 where
   -- two logs: an end more; and an end against a lost turn
   pub tail : tailOf (smallBytes 16 []) (smallBytes 20 (5 ∷ 0 ∷ 0 ∷ 0 ∷ [])) ≡ 5 ∷ 0 ∷ 0 ∷ 0 ∷ []
   pub differ : differenceOf (smallBytes 20 (1 ∷ 0 ∷ 0 ∷ 0 ∷ [])) (smallBytes 20 (5 ∷ 0 ∷ 0 ∷ 0 ∷ [])) ≡ some 47
+  -- of form Own: a cell more; and a deadline of 1 against one of 2
+  pub tail-own : tailOf (onlyEvents 2 4 (2 ∷ 2 ∷ 0 ∷ 16 ∷ [])) (onlyEvents 2 8 (2 ∷ 2 ∷ 0 ∷ 16 ∷ 2 ∷ 3 ∷ 1 ∷ 0 ∷ [])) ≡ 2 ∷ 3 ∷ 1 ∷ 0 ∷ []
+  pub differ-own : differenceOf (onlyEvents 2 4 (2 ∷ 2 ∷ 1 ∷ 0 ∷ [])) (onlyEvents 2 4 (2 ∷ 2 ∷ 2 ∷ 0 ∷ [])) ≡ some 27
+  -- the two forms are not compared, though no event is a cell: not an open turn with an open turn and an end, nor with an end
+  pub tail-forms : tailOf (onlyEvents 1 4 (0 ∷ 0 ∷ 0 ∷ 0 ∷ [])) (onlyEvents 2 8 (0 ∷ 0 ∷ 0 ∷ 0 ∷ 5 ∷ 0 ∷ 0 ∷ 0 ∷ [])) ≡ []
+  pub differ-forms : differenceOf (onlyEvents 1 4 (0 ∷ 0 ∷ 0 ∷ 0 ∷ [])) (onlyEvents 2 4 (5 ∷ 0 ∷ 0 ∷ 0 ∷ [])) ≡ none
   -- the limit: with one opening an event length of 65,508 makes 65,536 bytes and is right; with none 65,512 makes 65,537 and is wrong
   pub limit : readOf (1 ∷ 25 ∷ 0 ∷ 0 ∷ 0 ∷ 3 ∷ 0 ∷ 0 ∷ 0 ∷ 28 ∷ 0 ∷ 0 ∷ 0 ∷ 0 ∷ 0 ∷ 0 ∷ 0 ∷ 28 ∷ 0 ∷ 0 ∷ 0 ∷ 228 ∷ 255 ∷ 0 ∷ 0 ∷ []) ≡ Bad EndsEarly 25
   pub over : readOf (1 ∷ 25 ∷ 0 ∷ 0 ∷ 0 ∷ 0 ∷ 0 ∷ 0 ∷ 0 ∷ 25 ∷ 0 ∷ 0 ∷ 0 ∷ 0 ∷ 0 ∷ 0 ∷ 0 ∷ 25 ∷ 0 ∷ 0 ∷ 0 ∷ 232 ∷ 255 ∷ 0 ∷ 0 ∷ []) ≡ Bad TableField 21

@@ -14,9 +14,10 @@ pub use records::bad_opening;
 pub use records::no_event;
 pub use records::no_opening;
 
-// How a log tells its cells: by the flow's own deadline alone.
+// How a log tells a cell's deadline: as that of its flow's opening, or as the cell's own.
 pub enum Form {
     Flow,
+    Own,
 }
 
 // Why bytes are no log.
@@ -68,6 +69,7 @@ impl Form {
     {
         match self {
             Form::Flow => 1,
+            Form::Own => 2,
         }
     }
 
@@ -75,13 +77,19 @@ impl Form {
     pub fn is_first(byte: u8) -> bool
         ensures { λ r. ⌜ r ≡ isFirst byte ⌝ }
     {
-        byte == 1
+        if byte == 1 {
+            return true;
+        }
+        byte == 2
     }
 
     // The form that a first byte tells.
     pub fn told_by(byte: u8) -> Form
         ensures { λ r. ⌜ r ≡ formOf byte ⌝ }
     {
+        if byte == 2 {
+            return Form::Own;
+        }
         Form::Flow
     }
 }

@@ -65,5 +65,6 @@ fn bad_cell(form: Form, number: u64) -> bool
 {
     match form {
         Form::Flow => 0 < number,
+        Form::Own => units::bad_deadline(number),
     }
 }
