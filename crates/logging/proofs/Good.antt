@@ -10,7 +10,7 @@ use lib.Dec.{eqb}
 use lib.ListN.{length, getD, set, replicate, length-set}
 use Rattle.units.specs.Limits.{outsideOf}
 use Rattle.station.specs.declared.Call.{Call}
-use Rattle.log.specs.declared.Form.the-variants.{Flow}
+use Rattle.log.specs.declared.Form.the-variants.{Own}
 use Rattle.log.specs.Format.{GoodLog, GoodOpenings, GoodEvents, mostDeadline, mostWeight}
 use Rattle.logging.specs.Sorts.{Sort, beyond, opensUrgent, opensFair, closes, happens, sortOf}
 use Rattle.logging.specs.Logging.{Opened, nothingOpened, openedWith, withUrgent, withFair, listed, eventsBy, eventsOf, logWith, logOf}
@@ -97,24 +97,24 @@ after-valid o (call ∷ calls) v = go (sortOf call) (view call) (λ p w. after-v
     go closes is-closing again = v
     go (happens e) (is-event d b q) again = v
 
-events-on-good : (calls : List Call) → GoodEvents Flow (eventsOf calls)
+events-on-good : (calls : List Call) → GoodEvents Own (eventsOf calls)
 unfolding eventsOf
 events-on-good [] = tt
 events-on-good (call ∷ calls) = go (sortOf call) (view call) (events-on-good calls)
   where
-    go : (x : Sort) → View call x → GoodEvents Flow (eventsOf calls) → GoodEvents Flow (eventsBy x (eventsOf calls))
+    go : (x : Sort) → View call x → GoodEvents Own (eventsOf calls) → GoodEvents Own (eventsBy x (eventsOf calls))
     go beyond (is-beyond q) again = again
     go (opensUrgent flow deadline) (is-urgent f d q l b) again = tt
     go (opensFair flow weight) (is-fair f w q l b) again = tt
     go closes is-closing again = tt
     go (happens e) (is-event d b q) again = (b, again)
 
-events-good : (calls : List Call) → GoodEvents Flow (eventsIn calls)
+events-good : (calls : List Call) → GoodEvents Own (eventsIn calls)
 unfolding eventsIn
 events-good [] = tt
 events-good (call ∷ calls) = go (sortOf call) (view call) (events-good calls)
   where
-    go : (x : Sort) → View call x → GoodEvents Flow (eventsIn calls) → GoodEvents Flow (startBy x (eventsIn calls) (eventsOf calls))
+    go : (x : Sort) → View call x → GoodEvents Own (eventsIn calls) → GoodEvents Own (startBy x (eventsIn calls) (eventsOf calls))
     go beyond (is-beyond q) again = again
     go (opensUrgent flow deadline) (is-urgent f d q l b) again = again
     go (opensFair flow weight) (is-fair f w q l b) again = again

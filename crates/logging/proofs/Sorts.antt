@@ -8,9 +8,8 @@ use lib.Dec.{ltb}
 use Rattle.units.specs.Limits.{noSuchFlow, badWeight, badDeadline, badLength}
 use Rattle.station.specs.declared.Call.{Call}
 use Rattle.station.specs.declared.Call.the-variants.{OpenUrgent, OpenFair, CloseUrgent, CloseFair, OfferCell, OfferPacket, OpenTurn, LostTurn, Begin, End}
-use Rattle.log.specs.declared.Form.the-variants.{Flow}
+use Rattle.log.specs.declared.Form.the-variants.{Own}
 use Rattle.log.specs.Format.{Event, badEvent}
-use Rattle.log.specs.Words.{eventWord}
 use Rattle.log.proofs.Tests.{or-false}
 use Rattle.logging.specs.Sorts.{Sort, beyond, opensUrgent, opensFair, closes, happens, event, sortOf}
 use Rattle.logging.specs.Replay.{callIn}
@@ -49,7 +48,7 @@ an-event false d e q = (refl, cc)
 -- ---- an event and its call
 -- an event is well formed, and is that of the call
 abbrev pub EventOf : Call → Event → Type 0
-EventOf call e = (badEvent Flow (e .kind) (e .flow) (e .number) ≡ false) × (callIn e ≡ call)
+EventOf call e = (badEvent Own (e .kind) (e .flow) (e .number) ≡ false) × (callIn e ≡ call)
 
 pub event-only : (call : Call) (e : Event) → sortOf call ≡ happens e → EventOf call e
 event-only (OpenUrgent flow deadline) e q = absurd (never-event (noSuchFlow flow || badDeadline deadline) (opensUrgent flow deadline) e refl q)
@@ -58,7 +57,8 @@ event-only (CloseUrgent flow) e q = absurd (never-event (noSuchFlow flow) closes
 event-only (CloseFair flow) e q = absurd (never-event (noSuchFlow flow) closes e refl q)
 event-only OpenTurn e q = rw (← an-event false (event 0 0 0) e q .1) (refl, refl)
 event-only LostTurn e q = rw (← an-event false (event 1 0 0) e q .1) (refl, refl)
-event-only (OfferCell flow) e q = let h = an-event (noSuchFlow flow) (event 2 flow 0) e q in rw (← h .1) (rw (h .0), refl)
+event-only (OfferCell flow deadline) e q =
+    let h = an-event (noSuchFlow flow || badDeadline deadline) (event 2 flow deadline) e q in rw (← h .1) (h .0, refl)
 event-only (OfferPacket flow length) e q = let h = an-event (noSuchFlow flow || badLength length) (event 3 flow length) e q in rw (← h .1) (h .0, refl)
 event-only Begin e q = rw (← an-event false (event 4 0 0) e q .1) (refl, refl)
 event-only End e q = rw (← an-event false (event 5 0 0) e q .1) (refl, refl)
@@ -70,21 +70,18 @@ zeros kind flow number e =
     let i = or-false (ltb 5 kind) (ltb 0 flow) (h .0) in
     (ltb-false 5 kind (i .0), omega (arith, ltb-false 0 flow (i .1)), omega (arith, ltb-false 0 number (h .1)))
 
-none-above : (kind flow number : ℕ) → 5 < kind → badEvent Flow kind flow number ≡ false → sortOf (callIn (event kind flow number)) ≡ happens (event kind flow number)
+none-above : (kind flow number : ℕ) → 5 < kind → badEvent Own kind flow number ≡ false → sortOf (callIn (event kind flow number)) ≡ happens (event kind flow number)
 none-above kind flow number l b =
     let h = rw (ne-eqb kind 3 (λ q. omega arith), ne-eqb kind 2 (λ q. omega arith)) at b in
     absurd (omega (arith, zeros kind flow number h .0))
 
-pub event-good : (e : Event) → badEvent Flow (e .kind) (e .flow) (e .number) ≡ false → sortOf (callIn e) ≡ happens e
+pub event-good : (e : Event) → badEvent Own (e .kind) (e .flow) (e .number) ≡ false → sortOf (callIn e) ≡ happens e
 event-good e = kinds (e .kind) (e .flow) (e .number)
   where
-    kinds : (kind flow number : ℕ) → badEvent Flow kind flow number ≡ false → sortOf (callIn (event kind flow number)) ≡ happens (event kind flow number)
+    kinds : (kind flow number : ℕ) → badEvent Own kind flow number ≡ false → sortOf (callIn (event kind flow number)) ≡ happens (event kind flow number)
     kinds zero flow number b = let z = zeros 0 flow number b in rw (z .1, z .2)
     kinds (suc zero) flow number b = let z = zeros 1 flow number b in rw (z .1, z .2)
-    kinds (suc (suc zero)) flow number b =
-        let h = or-false (noSuchFlow flow) (ltb 0 number) b in
-        let n : number ≡ 0 = omega (arith, ltb-false 0 number (h .1)) in
-        rw (h .0, n)
+    kinds (suc (suc zero)) flow number b = rw b
     kinds (suc (suc (suc zero))) flow number b = rw b
     kinds (suc (suc (suc (suc zero)))) flow number b = let z = zeros 4 flow number b in rw (z .1, z .2)
     kinds (suc (suc (suc (suc (suc zero))))) flow number b = let z = zeros 5 flow number b in rw (z .1, z .2)
@@ -96,7 +93,7 @@ pub data View (call : Call) : Sort → Type 0 where
   is-urgent : (flow deadline : ℕ) → call ≡ OpenUrgent flow deadline → flow ≤ 15 → badDeadline deadline ≡ false → View call (opensUrgent flow deadline)
   is-fair : (flow weight : ℕ) → call ≡ OpenFair flow weight → flow ≤ 15 → badWeight weight ≡ false → View call (opensFair flow weight)
   is-closing : View call closes
-  is-event : (e : Event) → badEvent Flow (e .kind) (e .flow) (e .number) ≡ false → callIn e ≡ call → View call (happens e)
+  is-event : (e : Event) → badEvent Own (e .kind) (e .flow) (e .number) ≡ false → callIn e ≡ call → View call (happens e)
 
 opening : (call : Call) (flow : ℕ) (bad : Bool) (x : Sort) → sortOf call ≡ cond (noSuchFlow flow || bad) beyond x
     → (flow ≤ 15 → bad ≡ false → View call x) → View call (cond (noSuchFlow flow || bad) beyond x)
@@ -125,13 +122,10 @@ view (OpenFair flow weight) =
     opening (OpenFair flow weight) flow (badWeight weight) (opensFair flow weight) refl (λ l b. is-fair flow weight refl l b)
 view (CloseUrgent flow) = closing (CloseUrgent flow) (noSuchFlow flow) refl
 view (CloseFair flow) = closing (CloseFair flow) (noSuchFlow flow) refl
-view (OfferCell flow) = offering (OfferCell flow) (noSuchFlow flow) (event 2 flow 0) refl
+view (OfferCell flow deadline) =
+    offering (OfferCell flow deadline) (noSuchFlow flow || badDeadline deadline) (event 2 flow deadline) refl
 view (OfferPacket flow length) = offering (OfferPacket flow length) (noSuchFlow flow || badLength length) (event 3 flow length) refl
 view OpenTurn = happening OpenTurn (event 0 0 0) refl
 view LostTurn = happening LostTurn (event 1 0 0) refl
 view Begin = happening Begin (event 4 0 0) refl
 view End = happening End (event 5 0 0) refl
-
--- ---- the word of a cell
-pub cell-word : (flow : ℕ) → 2 + 256 * flow ≡ eventWord (event 2 flow 0)
-cell-word flow = omega arith

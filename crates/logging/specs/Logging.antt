@@ -5,7 +5,7 @@ use Prim.Native.Nat.{ℕ, _+_}
 use lib.Dec.{eqb}
 use lib.ListN.{getD, set, replicate}
 use Rattle.station.specs.declared.Call.{Call}
-use Rattle.log.specs.declared.Form.the-variants.{Flow}
+use Rattle.log.specs.declared.Form.the-variants.{Own}
 use Rattle.log.specs.Format.{Opening, Event, Log}
 use Rattle.logging.specs.Sorts.{Sort, beyond, opensUrgent, opensFair, closes, happens, sortOf}
 
@@ -47,9 +47,9 @@ unfoldable pub eventsOf : List Call → List Event
 eventsOf [] = []
 eventsOf (call ∷ calls) = eventsBy (sortOf call) (eventsOf calls)
 
--- ---- the log
+-- ---- the log, which tells each cell's own deadline
 abbrev pub logWith : Opened → List Event → Log
-logWith o events = record { form = Flow; urgent = listed 0 (o .deadlines); fair = listed 0 (o .weights); events = events }
+logWith o events = record { form = Own; urgent = listed 0 (o .deadlines); fair = listed 0 (o .weights); events = events }
 
 -- before the first event openings are gathered, and a closing ends the log there too
 abbrev pub logBy : Opened → Sort → (Opened → Log) → List Event → Log

@@ -5,13 +5,14 @@ use lib.Dec.{eqb}
 use Rattle.station.specs.declared.Call.{Call}
 use Rattle.station.specs.declared.Call.the-variants.{OpenUrgent, OpenFair, OfferCell, OfferPacket, OpenTurn, LostTurn, Begin, End}
 use Rattle.log.specs.Format.{Opening, Event, Log}
+use Rattle.log.specs.Own.{ownLog}
 
--- the call of a well formed event
+-- the call of a well formed event that tells its cell's own deadline
 abbrev pub callIn : Event → Call
 callIn e =
     cond (eqb (e .kind) 0) OpenTurn
     (cond (eqb (e .kind) 1) LostTurn
-    (cond (eqb (e .kind) 2) (OfferCell (e .flow))
+    (cond (eqb (e .kind) 2) (OfferCell (e .flow) (e .number))
     (cond (eqb (e .kind) 3) (OfferPacket (e .flow) (e .number))
     (cond (eqb (e .kind) 4) Begin End))))
 
@@ -25,5 +26,6 @@ openFair o = OpenFair (o .flow) (o .number)
 abbrev pub openingsIn : Log → List Call
 openingsIn log = map openUrgent (log .urgent) ++ map openFair (log .fair)
 
+-- then the events; where the log tells no deadline of its cells, each has that of its flow's opening
 abbrev pub callsOf : Log → List Call
-callsOf log = openingsIn log ++ map callIn (log .events)
+callsOf log = openingsIn log ++ map callIn (ownLog log .events)

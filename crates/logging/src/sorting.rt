@@ -15,7 +15,7 @@ pub fn sort(call: Call) -> Sorted
         Call::OpenFair(flow, weight) => opens_fair(flow, weight),
         Call::CloseUrgent(flow) => closes(flow),
         Call::CloseFair(flow) => closes(flow),
-        Call::OfferCell(flow) => cell(flow),
+        Call::OfferCell(flow, deadline) => cell(flow, deadline),
         Call::OfferPacket(flow, length) => packet(flow, length),
         Call::OpenTurn => Sorted::Happens(0),
         Call::LostTurn => Sorted::Happens(1),
@@ -61,13 +61,16 @@ fn closes(flow: u64) -> Sorted
 }
 
 // What a cell is.
-fn cell(flow: u64) -> Sorted
-    ensures { λ r. ⌜ r ≡ sortedOf (sortOf (OfferCell flow)) ⌝ }
+fn cell(flow: u64, deadline: u64) -> Sorted
+    ensures { λ r. ⌜ r ≡ sortedOf (sortOf (OfferCell flow deadline)) ⌝ }
 {
     if LAST_FLOW < flow {
         return Sorted::Beyond;
     }
-    Sorted::Happens((2 + 256 * flow) as u32)
+    if units::bad_deadline(deadline) {
+        return Sorted::Beyond;
+    }
+    Sorted::Happens((2 + 256 * flow + 65_536 * deadline) as u32)
 }
 
 // What a packet is.

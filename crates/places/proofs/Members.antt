@@ -1,4 +1,4 @@
--- What a count says of a list's members, and what holds of the members of joined, repeated and mapped lists.
+-- What a count says of a list's members, and what holds of the members of joined, repeated, mapped and stored lists.
 use mathlib.Core.Path.{_≡_, refl}
 use mathlib.Core.Logic.{inl, inr}
 use mathlib.Core.Bool.{Bool, true, false}
@@ -6,7 +6,7 @@ use mathlib.Core.List.{List, [], _∷_, _++_, map}
 use Prim.Native.Nat.{ℕ, zero, suc, _+_, _≤_, _<_}
 use native.Mathlib.Nat.{not-suc-le-zero}
 use native.Mathlib.Omega.{arith}
-use lib.ListN.{length, getD, replicate}
+use lib.ListN.{length, getD, set, replicate}
 use Rattle.places.specs.Places.{bit, count}
 use Rattle.places.specs.Members.{Each, Some}
 use Rattle.places.proofs.Count.{bit-le}
@@ -81,6 +81,18 @@ module _ {A : Type 0} where
   each-at P d [] i l e = absurd (not-suc-le-zero l)
   each-at P d (x ∷ xs) zero l e = e .0
   each-at P d (x ∷ xs) (suc i) l e = each-at P d xs i (omega arith) (e .1)
+
+  -- and, where it holds of what stands past the end too, of the one at any index
+  pub each-anywhere : (P : A → Type 0) (d : A) → P d → (xs : List A) (i : ℕ) → Each P xs → P (getD xs i d)
+  each-anywhere P d p [] i e = p
+  each-anywhere P d p (x ∷ xs) zero e = e .0
+  each-anywhere P d p (x ∷ xs) (suc i) e = each-anywhere P d p xs i (e .1)
+
+  -- a store of what it holds of keeps it
+  pub each-set : (P : A → Type 0) (xs : List A) (i : ℕ) (x : A) → P x → Each P xs → Each P (set xs i x)
+  each-set P [] i x p e = tt
+  each-set P (y ∷ xs) zero x p e = (p, e .1)
+  each-set P (y ∷ xs) (suc i) x p e = (e .0, each-set P xs i x p (e .1))
 
   -- what follows from each member that a statement holds of follows where it holds of some
   pub some-gives : (P : A → Type 0) (R : Type 0) → ((x : A) → P x → R) → (xs : List A) → Some P xs → R

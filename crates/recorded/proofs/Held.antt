@@ -6,7 +6,7 @@ use native.Mathlib.Omega.{arith}
 use borrow.Author.Tests.{le-ltb}
 use lib.ListN.{length, take, replicate, length-append}
 use lib.Seq.{length-take-le}
-use Rattle.log.specs.declared.Form.the-variants.{Flow}
+use Rattle.log.specs.declared.Form.the-variants.{Own}
 use Rattle.log.specs.declared.Written.{Written}
 use Rattle.log.specs.Format.{Log}
 use Rattle.log.specs.Words.{openingWord, lentLog}
@@ -28,7 +28,7 @@ words-told ns o e = sym (length-take-le (o .count) (o .words) (words-there ns o 
 
 module _ (r : Recorder) (events room : List ℕ) {urgent fair : Openings} (u : urgent ≡ openingsOf (r .deadlines)) (f : fair ≡ openingsOf (r .weights)) where
   abbrev lent : Openings → Openings → Log
-  lent urgent fair = lentLog Flow (wordsIn urgent) (wordsIn fair) (take (r .events) events)
+  lent urgent fair = lentLog Own (wordsIn urgent) (wordsIn fair) (take (r .events) events)
 
   lent-is : lent urgent fair ≡ heldLog r events
   lent-is = λ i. lent (u i) (f i)

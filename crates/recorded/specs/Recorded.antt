@@ -4,7 +4,7 @@ use mathlib.Core.List.{List}
 use Prim.Native.Nat.{ℕ}
 use lib.Dec.{ltb}
 use lib.ListN.{length, take}
-use Rattle.log.specs.declared.Form.the-variants.{Flow}
+use Rattle.log.specs.declared.Form.the-variants.{Own}
 use Rattle.log.specs.declared.Written.{Written}
 use Rattle.log.specs.declared.Written.the-variants.{TooLong}
 use Rattle.log.specs.Format.{Log}
@@ -16,7 +16,7 @@ use Rattle.recorder.specs.Laws.{wordsIn}
 
 -- the openings listed, and as many events as were counted
 abbrev pub heldLog : Recorder → List ℕ → Log
-heldLog r events = lentLog Flow (wordsIn (openingsOf (r .deadlines))) (wordsIn (openingsOf (r .weights))) (take (r .events) events)
+heldLog r events = lentLog Own (wordsIn (openingsOf (r .deadlines))) (wordsIn (openingsOf (r .weights))) (take (r .events) events)
 
 -- the answer: 26 where more events were counted than have a word, and else the writer's for that log
 abbrev pub wroteOf : Recorder → List ℕ → ℕ → Written

@@ -26,7 +26,7 @@ pub fn write(recorder: Recorder, events: &[u32], room: &mut [u8]) -> Written
     let urgent_count = urgent.count;
     let fair_count = fair.count;
     log_writing::write(
-        Form::Flow,
+        Form::Own,
         &urgent_words[..urgent_count],
         &fair_words[..fair_count],
         &events[..count as usize],

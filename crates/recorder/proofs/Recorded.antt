@@ -10,7 +10,7 @@ use native.Mathlib.Omega.{arith}
 use lib.ListN.{length, set, take, drop, length-append, length-set}
 use lib.Seq.{sets, set-at, set-out, take-nil, take-all, take-at}
 use Rattle.station.specs.declared.Call.{Call}
-use Rattle.log.specs.declared.Form.the-variants.{Flow}
+use Rattle.log.specs.declared.Form.the-variants.{Own}
 use Rattle.log.specs.Format.{Log, Event}
 use Rattle.log.specs.Words.{openingWord, eventWord, lentLog}
 use Rattle.recorder.specs.declared.Recorder.{Recorder}
@@ -219,12 +219,12 @@ module _ (calls : List Call) where
       ∙ take-at (words (log .events)) (drop (length (log .events)) room) (r .events) (k ∙ sym n)
 
   lent-is : (room : List ℕ) → length room < mostCounted → r .events ≤ length room
-      → lentLog Flow (wordsIn (openingsOf (r .deadlines))) (wordsIn (openingsOf (r .weights))) (take (r .events) (roomAfter calls room)) ≡ log
+      → lentLog Own (wordsIn (openingsOf (r .deadlines))) (wordsIn (openingsOf (r .weights))) (take (r .events) (roomAfter calls room)) ≡ log
   lent-is room l m =
       let u = listed-words (r .deadlines) ∙ ap (map openingWord) its-urgent in
       let f = listed-words (r .weights) ∙ ap (map openingWord) its-fair in
       let e = its-words room l m in
-      let form : log .form ≡ Flow = ap (λ (l : Log). l .form) is in
+      let form : log .form ≡ Own = ap (λ (l : Log). l .form) is in
       (λ i. lentLog (sym form i) (u i) (f i) (e i)) ∙ lent-back log (is-good calls)
 
   few : r .events ≤ length (log .events)

@@ -4,7 +4,7 @@ use mathlib.Core.List.{List, [], _∷_, _++_, map}
 use Prim.Native.Nat.{ℕ, min, _≤_, _<_}
 use lib.ListN.{length, take, drop}
 use Rattle.station.specs.declared.Call.{Call}
-use Rattle.log.specs.declared.Form.the-variants.{Flow}
+use Rattle.log.specs.declared.Form.the-variants.{Own}
 use Rattle.log.specs.Format.{sizeOf, mostBytes}
 use Rattle.log.specs.Words.{eventWord, lentLog}
 use Rattle.recorder.specs.declared.Recorder.{Recorder}
@@ -49,7 +49,7 @@ pub record Records (calls : List Call) : Type 0 where
   -- where the events fit the room, the log is what is lent to the writer
   pub lent :
       (room : List ℕ) → length room < mostCounted → recorded calls .events ≤ length room
-      → lentLog Flow (wordsIn (openingsOf (recorded calls .deadlines))) (wordsIn (openingsOf (recorded calls .weights)))
+      → lentLog Own (wordsIn (openingsOf (recorded calls .deadlines))) (wordsIn (openingsOf (recorded calls .weights)))
       (take (recorded calls .events) (roomAfter calls room))
       ≡ logOf calls
   -- and where they do not, though it has place for 16,377, the log is too long for any room
