@@ -11,7 +11,7 @@ use Rattle.text.specs.Decimal.{decimalOf}
 use Rattle.text.specs.Reading.{blank}
 use Rattle.text.specs.Lines.{lineFeed, lineWith}
 use Rattle.station.specs.declared.Call.the-variants.{End}
-use Rattle.lines.specs.Grammar.{smallF, smallE}
+use Rattle.lines.specs.Grammar.{smallU, smallF, smallE}
 use Rattle.logging.specs.Replay.{callIn}
 use Rattle.log_lines.specs.Answers.{shown, shownOpening, shownEvent}
 use Rattle.log_lines.specs.Letters.{laneLetter, kindLetter, kindNumbers}
@@ -38,7 +38,7 @@ by-kind : (kind flow number : ℕ)
     → shown (callIn (record { kind = kind; flow = flow; number = number })) ≡ lineWith (kindLetter kind ∷ []) (map decimalOf (take (kindNumbers kind) (flow ∷ number ∷ 0 ∷ [])))
 by-kind zero flow number = refl
 by-kind (suc zero) flow number = refl
-by-kind (suc (suc zero)) flow number = refl
+by-kind (suc (suc zero)) flow number = append-assoc (smallU ∷ blank ∷ decimalOf flow) (blank ∷ decimalOf number) (lineFeed ∷ [])
 by-kind (suc (suc (suc zero))) flow number = append-assoc (smallF ∷ blank ∷ decimalOf flow) (blank ∷ decimalOf number) (lineFeed ∷ [])
 by-kind (suc (suc (suc (suc zero)))) flow number = refl
 by-kind (suc (suc (suc (suc (suc kind))))) flow number =

@@ -42,7 +42,7 @@ opening-small false w l = (omega arith, omega arith)
 event-small : (kind flow number : ℕ) → flow ≤ largest → number ≤ largest → Small (callIn (record { kind = kind; flow = flow; number = number }))
 event-small zero flow number l m = tt
 event-small (suc zero) flow number l m = tt
-event-small (suc (suc zero)) flow number l m = l
+event-small (suc (suc zero)) flow number l m = (l, m)
 event-small (suc (suc (suc zero))) flow number l m = (l, m)
 event-small (suc (suc (suc (suc zero)))) flow number l m = tt
 event-small (suc (suc (suc (suc (suc kind))))) flow number l m = rw (last-kind (suc (suc (suc (suc (suc kind))))) flow number (omega arith)) tt

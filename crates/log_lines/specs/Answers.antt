@@ -44,7 +44,7 @@ abbrev pub differenceLine : Place → List ℕ
 differenceLine (At place) = lineWith atWord (decimalOf place ∷ [])
 differenceLine Nowhere = lineWith noneWord []
 
--- the call of a record: what a station gets when the log is gone through again
+-- the call of a record, an event with its cell's own deadline: what a station gets when the log is gone through again
 abbrev pub openingCall : Bool → ℕ → Call
 openingCall urgent word = cond urgent (openUrgent (openingOf word)) (openFair (openingOf word))
 

@@ -14,4 +14,4 @@ kindLetter kind =
     (cond (eqb kind 2) smallU (cond (eqb kind 3) smallF (cond (eqb kind 4) smallB smallE))))
 
 abbrev pub kindNumbers : ℕ → ℕ
-kindNumbers kind = cond (eqb kind 2) 1 (cond (eqb kind 3) 2 0)
+kindNumbers kind = cond (eqb kind 2) 2 (cond (eqb kind 3) 2 0)

@@ -43,7 +43,7 @@ pub record RecordsSpelled : Type 0 where
   pub fair : (w : ℕ) → shownOpening false w ≡ spelled (bytesOf "F" ∷ field (openingOf w .flow) ∷ field (openingOf w .number) ∷ [])
   pub openTurn : (w : ℕ) → eventOf w .kind ≡ 0 → shownEvent w ≡ spelled (bytesOf "t" ∷ [])
   pub lostTurn : (w : ℕ) → eventOf w .kind ≡ 1 → shownEvent w ≡ spelled (bytesOf "x" ∷ [])
-  pub cell : (w : ℕ) → eventOf w .kind ≡ 2 → shownEvent w ≡ spelled (bytesOf "u" ∷ field (eventOf w .flow) ∷ [])
+  pub cell : (w : ℕ) → eventOf w .kind ≡ 2 → shownEvent w ≡ spelled (bytesOf "u" ∷ field (eventOf w .flow) ∷ field (eventOf w .number) ∷ [])
   pub packet : (w : ℕ) → eventOf w .kind ≡ 3 → shownEvent w ≡ spelled (bytesOf "f" ∷ field (eventOf w .flow) ∷ field (eventOf w .number) ∷ [])
   pub begin : (w : ℕ) → eventOf w .kind ≡ 4 → shownEvent w ≡ spelled (bytesOf "b" ∷ [])
   pub end : (w : ℕ) → 5 ≤ eventOf w .kind → shownEvent w ≡ spelled (bytesOf "e" ∷ [])

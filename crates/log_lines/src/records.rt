@@ -16,7 +16,7 @@ pub fn opening(urgent: bool, word: u32, out: &mut [u8], at: usize) -> usize
     line(out, at, &[letter], flow, number, 2)
 }
 
-// Puts the line of an event's call, and answers the place after it.
+// Puts the line of the call of an event that tells its cell's own deadline, and answers the place after it.
 pub fn event(word: u32, out: &mut [u8], at: usize) -> usize
     ensures { λ r. ⌜ Placed longest (shownEvent word) (now (out .entry)) at (now (out .exit)) r ⌝ }
 {
@@ -52,12 +52,12 @@ fn kind_letter(kind: u32) -> u8
     }
 }
 
-// How many numbers a kind's call has: a cell its flow, a packet its length too.
+// How many numbers a kind's call has: a cell its flow and its deadline, a packet its flow and its length.
 fn kind_numbers(kind: u32) -> usize
     ensures { λ r. ⌜ r ≡ kindNumbers kind ⌝ }
 {
     match kind {
-        2 => 1,
+        2 => 2,
         3 => 2,
         _ => 0,
     }
