@@ -1,0 +1,51 @@
+// Events with each cell's own deadline, where all urgent openings are there.
+ghost use mathlib.Core.Path.{_≡_};
+ghost use Prim.Native.Nat.{_+_, _*_, _≤_, _<_};
+ghost use lib.ListN.{length};
+ghost use Rattle.log.specs.declared.Form.the-variants.{Flow};
+ghost use Rattle.log.specs.Own.{deadlineIn};
+ghost use Rattle.log.specs.Reading.{openingsAt};
+ghost use Rattle.log_records.specs.Found.{ownWord};
+use crate::URGENT;
+use log::Form;
+
+// An event of a log that has this form and so many urgent openings, with its cell's own deadline.
+pub(crate) fn own_word(log: &[u8], form: Form, openings: usize, word: u32) -> u32
+    requires { ⌜ 25 + 3 * openings ≤ length (now log) ⌝ }
+    ensures { λ r. ⌜ r ≡ ownWord form (openingsAt (now (log .entry)) 25 openings) word ⌝ }
+{
+    match form {
+        Form::Flow => flow_word(log, openings, word),
+        Form::Own => word,
+    }
+}
+
+// The same, where a cell has its flow's deadline.
+fn flow_word(log: &[u8], openings: usize, word: u32) -> u32
+    requires { ⌜ 25 + 3 * openings ≤ length (now log) ⌝ }
+    ensures { λ r. ⌜ r ≡ ownWord Flow (openingsAt (now (log .entry)) 25 openings) word ⌝ }
+{
+    if word % 256 != 2 {
+        return word;
+    }
+    let flow = word / 256 % 256;
+    word % 65_536 + 65_536 * deadline_of(log, openings, flow as u64) as u32
+}
+
+// The deadline with which a flow was opened, by the first of so many openings that is its own; 1 where none is.
+fn deadline_of(log: &[u8], openings: usize, flow: u64) -> u64
+    requires { ⌜ 25 + 3 * openings ≤ length (now log) ⌝ }
+    ensures { λ r. ⌜ r ≡ deadlineIn (openingsAt (now (log .entry)) 25 openings) flow ⌝ }
+    ensures { λ r. ⌜ r < 65536 ⌝ }
+{
+    let mut at = URGENT;
+    let mut left = openings;
+    while 0 < left {
+        if log::two(log[at], 0) == flow {
+            return log::two(log[at + 1], log[at + 1 + 1]);
+        }
+        at += 3;
+        left -= 1;
+    }
+    1
+}
