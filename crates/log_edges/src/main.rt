@@ -2,8 +2,10 @@
 // are four bytes, the lowest first. A case is one of these:
 //   `c`, a length, so many bytes: what the reader says of them;
 //   `p`, two lengths, the bytes of both: where the two logs differ, and the tail;
-//   `r`, a length, so many bytes, a body (a byte: 0 urgent openings, 1 fair openings, 2 events), an index: the record;
-//   `w`, three counts, the length of a room, so many numbers: what the writer says, and the room after it.
+//   `r`, a length, so many bytes, a body (a byte: 0 urgent openings, 1 fair openings, 2 events, 3 events with each cell's own deadline),
+//        an index: the record;
+//   `w`, three counts, the length of a room, so many numbers: what the writer says of a log of form Flow, and the room after it;
+//   `o`, the same for a log of form Own.
 // A case that is none of these, that is too large, or that the input cuts short ends the program with a line on standard error.
 mod input;
 mod output;
@@ -15,6 +17,7 @@ use input::byte;
 use input::filled;
 use input::number;
 use libc::STDERR_FILENO;
+use log::Form;
 use reading::comparing;
 use reading::finding;
 use reading::reading;
@@ -28,6 +31,8 @@ const PAIR: usize = b'p' as usize;
 const RECORD: usize = b'r' as usize;
 
 const WRITE: usize = b'w' as usize;
+
+const WRITE_OWN: usize = b'o' as usize;
 
 fn main() {
     let mut bytes = [0u8; 70_000];
@@ -60,7 +65,10 @@ fn tell() {
 fn answered(kind: usize, bytes: &mut [u8]) -> bool {
     let n = number();
     if kind == WRITE {
-        return writing(n, bytes);
+        return writing(Form::Flow, n, bytes);
+    }
+    if kind == WRITE_OWN {
+        return writing(Form::Own, n, bytes);
     }
     let m = other(kind);
     if bytes.len() < n {

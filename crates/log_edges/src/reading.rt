@@ -20,6 +20,8 @@ const FAIR: usize = 1;
 
 const EVENTS: usize = 2;
 
+const OWN_EVENTS: usize = 3;
+
 // What the reader says of a log.
 pub(crate) fn reading(log: &[u8]) -> bool {
     match log_reading::read(log) {
@@ -82,7 +84,7 @@ fn difference(place: Place) -> bool {
 pub(crate) fn finding(log: &[u8]) -> bool {
     let body = byte();
     let k = number();
-    if EVENTS < body {
+    if OWN_EVENTS < body {
         return false;
     }
     if k == NONE {
@@ -104,7 +106,8 @@ fn record(log: &[u8], c: Contents, body: usize, k: usize) -> Found {
     match body {
         URGENT => log_records::urgent_opening(log, c, k),
         FAIR => log_records::fair_opening(log, c, k),
-        _ => log_records::event(log, c, k),
+        EVENTS => log_records::event(log, c, k),
+        _ => log_records::own_event(log, c, k),
     }
 }
 

@@ -18,9 +18,9 @@ const MOST_EVENTS: usize = 17_000;
 // What every byte of a room holds at first.
 const ROOM: u8 = 238;
 
-// What the writer says of a log of u urgent openings, and the room after it; the other counts, the room's length and the log are still to be
-// read, with bytes lent for them.
-pub(crate) fn writing(u: usize, bytes: &mut [u8]) -> bool {
+// What the writer says of a log of this form and of u urgent openings, and the room after it; the other counts, the room's length and the log
+// are still to be read, with bytes lent for them.
+pub(crate) fn writing(form: Form, u: usize, bytes: &mut [u8]) -> bool {
     let f = number();
     let e = number();
     let m = number();
@@ -33,11 +33,11 @@ pub(crate) fn writing(u: usize, bytes: &mut [u8]) -> bool {
     if MOST_EVENTS < e {
         return false;
     }
-    taking(u, u + f, u + f + e, m, bytes)
+    taking(form, u, u + f, u + f + e, m, bytes)
 }
 
 // The same, for n numbers, of which the fair openings start at u and the events at v, and a room of m bytes.
-fn taking(u: usize, v: usize, n: usize, m: usize, bytes: &mut [u8]) -> bool
+fn taking(form: Form, u: usize, v: usize, n: usize, m: usize, bytes: &mut [u8]) -> bool
     requires { ⌜ (u ≤ v) × (v ≤ n) × (n ≤ 17080) ⌝ }
 {
     let mut words = [0u32; 17_080];
@@ -45,7 +45,7 @@ fn taking(u: usize, v: usize, n: usize, m: usize, bytes: &mut [u8]) -> bool
         return false;
     }
     let mut room = [ROOM; 70_000];
-    written(&words, u, v, n, &mut room, m)
+    written(form, &words, u, v, n, &mut room, m)
 }
 
 // Takes so many numbers from the input, by way of their bytes; whether it had them.
@@ -68,23 +68,31 @@ fn taken(bytes: &mut [u8], words: &mut [u32], n: usize) -> bool
 }
 
 // The same, for numbers that are there, and the first m bytes of what is lent as a room.
-fn written(words: &[u32], u: usize, v: usize, n: usize, room: &mut [u8], m: usize) -> bool
+fn written(
+    form: Form,
+    words: &[u32],
+    u: usize,
+    v: usize,
+    n: usize,
+    room: &mut [u8],
+    m: usize,
+) -> bool
     requires { ⌜ (u ≤ v) × (v ≤ n) × (n ≤ length (now words)) ⌝ }
 {
     if room.len() < m {
         return false;
     }
-    if !said(wrote(words, u, v, n, &mut room[..m])) {
+    if !said(wrote(form, words, u, v, n, &mut room[..m])) {
         return false;
     }
     counted(b"room", &room[..m])
 }
 
-// What the writer says of the first n numbers and a room.
-fn wrote(words: &[u32], u: usize, v: usize, n: usize, room: &mut [u8]) -> Written
+// What the writer says of a form, the first n numbers and a room.
+fn wrote(form: Form, words: &[u32], u: usize, v: usize, n: usize, room: &mut [u8]) -> Written
     requires { ⌜ (u ≤ v) × (v ≤ n) × (n ≤ length (now words)) ⌝ }
 {
-    log_writing::write(Form::Flow, &words[..u], &words[u..v], &words[v..n], room)
+    log_writing::write(form, &words[..u], &words[u..v], &words[v..n], room)
 }
 
 // What the writer says, as a line.

@@ -18,11 +18,20 @@ same-length c = search needs
 returns : tie.Need-returns
 returns c = search needs
 
-other-requires : tie.Need-other-requires
-other-requires c κs = search needs
+writing-requires-2 : tie.Need-writing-requires-2
+writing-requires-2 c κs = search needs
+
+same-length-2 : tie.Need-same-length-2
+same-length-2 c = search needs
 
 returns-2 : tie.Need-returns-2
 returns-2 c = search needs
+
+other-requires : tie.Need-other-requires
+other-requires c κs = search needs
+
+returns-3 : tie.Need-returns-3
+returns-3 c = search needs
 
 slice-relend-prefix-filled : tie.Need-slice-relend-prefix-filled
 slice-relend-prefix-filled c = search needs
@@ -33,11 +42,11 @@ slice-aggregate-filled c = sym (length-take-le _ _ (omega arith))
 filled-requires : tie.Need-filled-requires
 filled-requires c κs = search needs
 
-same-length-2 : tie.Need-same-length-2
-same-length-2 c = search needs
+same-length-3 : tie.Need-same-length-3
+same-length-3 c = search needs
 
-returns-3 : tie.Need-returns-3
-returns-3 c = search needs
+returns-4 : tie.Need-returns-4
+returns-4 c = search needs
 
 slice-reshare-prefix-about : tie.Need-slice-reshare-prefix-about
 slice-reshare-prefix-about c = search needs
@@ -48,11 +57,11 @@ slice-aggregate-about c = sym (length-take-le _ _ (omega arith))
 about-requires : tie.Need-about-requires
 about-requires c κs = search needs
 
-same-length-3 : tie.Need-same-length-3
-same-length-3 c = search needs
+same-length-4 : tie.Need-same-length-4
+same-length-4 c = search needs
 
-returns-4 : tie.Need-returns-4
-returns-4 c = search needs
+returns-5 : tie.Need-returns-5
+returns-5 c = search needs
 
 pub answered-spec : {M : Type 1} → statement M
 answered-spec =
@@ -62,15 +71,18 @@ answered-spec =
     writing-requires
     same-length
     returns
-    other-requires
+    writing-requires-2
+    same-length-2
     returns-2
+    other-requires
+    returns-3
     slice-relend-prefix-filled
     slice-aggregate-filled
     filled-requires
-    same-length-2
-    returns-3
+    same-length-3
+    returns-4
     slice-reshare-prefix-about
     slice-aggregate-about
     about-requires
-    same-length-3
-    returns-4)
+    same-length-4
+    returns-5)
