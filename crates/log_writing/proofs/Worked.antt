@@ -7,4 +7,17 @@ use Rattle.log_writing.specs.Worked.{Worked}
 
 pub worked : Worked
 unfolding openingBytes eventBytes badOpenings badEvents firstBad writtenOf
-worked = record { enough = refl; short = refl; bad = refl; bad-urgent = refl; bad-fair = refl; past = refl }
+worked =
+    record {
+      enough = refl;
+      short = refl;
+      bad = refl;
+      bad-urgent = refl;
+      bad-fair = refl;
+      past = refl;
+      own = refl;
+      bad-own = refl;
+      bad-late = refl;
+      bad-told = refl;
+      first = refl;
+    }
