@@ -1,5 +1,5 @@
--- The log of a good log's calls is that log.
-use mathlib.Core.Path.{_≡_, refl, sym, _∙_, ap, subst}
+-- The log of a good log's calls is that log, with each cell's own deadline.
+use mathlib.Core.Path.{_≡_, refl, sym, _∙_, ap}
 use mathlib.Core.Bool.{true, false, _||_}
 use mathlib.Core.List.{List, [], _∷_, _++_, map, append-assoc, append-nil}
 use Prim.Native.Nat.{ℕ, zero, suc, _+_, _-_, _≤_}
@@ -10,11 +10,12 @@ use lib.ListN.{getD, replicate, length, length-append, length-replicate, replica
 use lib.Seq.{set-at, getD-at}
 use Rattle.units.specs.Limits.{noSuchFlow, badWeight, badDeadline, outsideOf}
 use Rattle.station.specs.declared.Call.{Call}
-use Rattle.log.specs.declared.Form.{Form}
-use Rattle.log.specs.declared.Form.the-variants.{Flow}
+use Rattle.log.specs.declared.Form.the-variants.{Own}
 use Rattle.log.specs.Format.{Opening, Event, Log, GoodLog, GoodOpenings, GoodEvents, mostDeadline, mostWeight}
+use Rattle.log.specs.Own.{ownLog}
 use Rattle.log.proofs.Tests.{or-false}
 use Rattle.log.proofs.There.{opening-flow, opening-number}
+use Rattle.log.proofs.Own.{own-log}
 use Rattle.logging.specs.Sorts.{Sort}
 use Rattle.logging.specs.Logging.{Opened, nothingOpened, openedWith, listed, logWith, logBy, logFrom, logOf, eventsBy, eventsOf}
 use Rattle.logging.specs.Replay.{openUrgent, openFair, callIn, callsOf}
@@ -89,12 +90,12 @@ module _ (build : List ℕ → Opened) (call : Opening → Call) (most : ℕ)
       (g .1))
 
 -- ---- the events, logged again
-on-again : (es : List Event) → GoodEvents Flow es → eventsOf (map callIn es) ≡ es
+on-again : (es : List Event) → GoodEvents Own es → eventsOf (map callIn es) ≡ es
 unfolding eventsOf
 on-again [] g = refl
 on-again (e ∷ es) g = ap (λ (x : Sort). eventsBy x (eventsOf (map callIn es))) (event-good e (g .0)) ∙ ap (λ (t : List Event). e ∷ t) (on-again es (g .1))
 
-events-again : (o : Opened) (es : List Event) → GoodEvents Flow es → logFrom o (map callIn es) ≡ logWith o es
+events-again : (o : Opened) (es : List Event) → GoodEvents Own es → logFrom o (map callIn es) ≡ logWith o es
 unfolding logFrom
 events-again o [] g = refl
 events-again o (e ∷ es) g =
@@ -112,19 +113,15 @@ fair-step : (ds ns : List ℕ) (o : Opening) (rest : List Call) → o .flow ≤ 
 unfolding logFrom
 fair-step ds ns o rest l b = rw (le-ltb 15 (o .flow) l, b)
 
--- a log of a session is of the one form
-only-form : (form : Form) → form ≡ Flow
-only-form Flow = refl
-
-pub again : (log : Log) → GoodLog log → logOf (callsOf log) ≡ log
+pub again : (log : Log) → GoodLog log → logOf (callsOf log) ≡ ownLog log
 unfolding listed
 again log g =
-    let one = only-form (log .form) in
-    let es = map callIn (log .events) in
+    let own = ownLog log .events in
+    let es = map callIn own in
     let u = logged-again (λ (ns : List ℕ). record { deadlines = ns; weights = replicate 16 0 }) openUrgent mostDeadline (urgent-step (replicate 16 0)) (log .urgent) [] 16 0 (map openFair (log .fair) ++ es) refl refl (g .urgent) in
     let f = logged-again (λ (ns : List ℕ). record { deadlines = u .0; weights = ns }) openFair mostWeight (fair-step (u .0)) (log .fair) [] 16 0 es refl refl (g .fair) in
     ap (logFrom nothingOpened) (append-assoc (map openUrgent (log .urgent)) (map openFair (log .fair)) es)
     ∙ u .2
     ∙ f .2
-    ∙ events-again (record { deadlines = u .0; weights = f .0 }) (log .events) (subst (λ (f : Form). GoodEvents f (log .events)) one (g .events))
-    ∙ (λ i. record { form = sym one i; urgent = u .1 i; fair = f .1 i; events = log .events })
+    ∙ events-again (record { deadlines = u .0; weights = f .0 }) own (own-log log .good g .events)
+    ∙ (λ i. record { form = Own; urgent = u .1 i; fair = f .1 i; events = own })

@@ -5,5 +5,6 @@ pub mod Openings
 pub mod Again
 pub mod Sorts
 pub mod Logged
+pub mod Flows
 pub mod Worked
 pub mod Promises

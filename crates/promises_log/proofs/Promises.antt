@@ -19,12 +19,14 @@ use Rattle.log_commands.proofs.Spelled.{log-commands-spelled}
 use Rattle.promises_log.specs.Numbers.{AnswersNumbered}
 use Rattle.promises_log.specs.Promises.{LogPromises}
 use Rattle.promises_log.proofs.Logged.{logged}
+use Rattle.promises_log.proofs.Flows.{flow-logged}
 use Rattle.promises_log.proofs.Sorts.{calls-sorted}
 
 numbered : AnswersNumbered
 numbered =
     record {
-      good = λ urgent fair events. refl;
+      good-flow = λ urgent fair events. refl;
+      good-own = λ urgent fair events. refl;
       first-byte = λ place. refl;
       table-field = λ place. refl;
       bad-record = λ place. refl;
@@ -52,6 +54,7 @@ log-promises =
       L6 = first-decide;
       L6-on = goes-on;
       L7 = logged;
+      L7-flow = flow-logged;
       L7-sorts = calls-sorted;
       L7-made = records;
       L7-on = notes-on;

@@ -1,16 +1,23 @@
--- What is promised of the log of a list of calls.
+-- What is promised of the log of a list of calls, and of the calls of a log of either form.
 use mathlib.Core.Path.{_≡_}
-use mathlib.Core.Bool.{false}
-use mathlib.Core.List.{List, _++_, map}
+use mathlib.Core.Bool.{true, false, cond}
+use mathlib.Core.List.{List, [], _∷_, _++_, map}
+use Prim.Native.Nat.{ℕ, _≤_}
+use lib.Dec.{eqb}
+use lib.ListN.{take}
+use Rattle.places.specs.Marks.{openIn}
 use Rattle.station.specs.declared.Call.{Call}
+use Rattle.station.specs.declared.Call.the-variants.{OfferCell}
 use Rattle.station.specs.declared.Reply.{Reply}
 use Rattle.station.specs.declared.Reply.the-variants.{Urgent, Fair}
-use Rattle.station.specs.Calls.{freshStation}
+use Rattle.station.specs.Calls.{freshStation, callOf}
 use Rattle.urgent.specs.declared.Answer.the-variants.{Opened}
 use Rattle.fair.specs.declared.Answer.the-variants.{Opened as FairOpened}
+use Rattle.promises_urgent.specs.Cells.{deadlineIn as inForceNow}
 use Rattle.promises.specs.Run.{run, replies}
-use Rattle.log.specs.declared.Form.the-variants.{Flow}
-use Rattle.log.specs.Format.{Opening, Event, Log, GoodLog, badEvent}
+use Rattle.log.specs.declared.Form.the-variants.{Flow, Own}
+use Rattle.log.specs.Format.{Opening, Event, Log, GoodLog, GoodOpenings, badEvent, mostDeadline}
+use Rattle.log.specs.Own.{deadlineIn, ownEvent, ownLog}
 use Rattle.logging.specs.Sorts.{sortOf, happens}
 use Rattle.logging.specs.Logging.{logOf}
 use Rattle.logging.specs.Replay.{callIn, openingsIn, callsOf}
@@ -22,7 +29,8 @@ openingReplies log = map (λ (o : Opening). Urgent Opened) (log .urgent) ++ map 
 
 -- L7: the log of a list of calls
 pub record Logged : Type 0 where
-  -- its records are well formed
+  -- it tells each cell's own deadline, and its records are well formed
+  pub form : (calls : List Call) → logOf calls .form ≡ Own
   pub good : (calls : List Call) → GoodLog (logOf calls)
   -- its openings bring a fresh station to where it was before the first event
   pub openings : (calls : List Call) → run (openingsIn (logOf calls)) .station ≡ run (openingPart calls) .station
@@ -33,7 +41,33 @@ pub record Logged : Type 0 where
       (calls : List Call)
       → replies freshStation (callsOf (logOf calls)) ≡ openingReplies (logOf calls) ++ pick (marksOf calls) (replies freshStation calls)
   -- an event is well formed exactly where it is that of a call (L7-sorts has which calls have one)
-  pub event-good : (e : Event) → badEvent Flow (e .kind) (e .flow) (e .number) ≡ false → sortOf (callIn e) ≡ happens e
-  pub event-only : (call : Call) (e : Event) → sortOf call ≡ happens e → (badEvent Flow (e .kind) (e .flow) (e .number) ≡ false) × (callIn e ≡ call)
-  -- the log of a good log's calls is that log
-  pub again : (log : Log) → GoodLog log → logOf (callsOf log) ≡ log
+  pub event-good : (e : Event) → badEvent Own (e .kind) (e .flow) (e .number) ≡ false → sortOf (callIn e) ≡ happens e
+  pub event-only : (call : Call) (e : Event) → sortOf call ≡ happens e → (badEvent Own (e .kind) (e .flow) (e .number) ≡ false) × (callIn e ≡ call)
+  -- the log of a good log's calls is that log, with each cell's own deadline; a log that tells these already is itself
+  pub again : (log : Log) → GoodLog log → logOf (callsOf log) ≡ ownLog log
+  pub again-own : (log : Log) → log .form ≡ Own → ownLog log ≡ log
+
+-- an event as a log of form Flow tells it: a cell without its deadline
+abbrev pub flowEvent : Event → Event
+flowEvent e = record { kind = e .kind; flow = e .flow; number = cond (eqb (e .kind) 2) 0 (e .number) }
+
+-- the calls of a log before event k
+abbrev pub callsBefore : Log → ℕ → List Call
+callsBefore log k = openingsIn log ++ map callIn (take k (ownLog log .events))
+
+-- a flow while a log is gone through again: open, its deadline in force is that of its opening in the log; not open, no deadline matters
+pub record FlowMeant (log : Log) (k flow : ℕ) : Type 0 where
+  pub opened : openIn (run (callsBefore log k) .cells .marks) flow ≡ true → deadlineIn (log .urgent) flow ≡ inForceNow (run (callsBefore log k) .cells) flow
+  pub shut :
+      openIn (run (callsBefore log k) .cells .marks) flow ≡ false
+      → (deadline : ℕ) → callOf (run (callsBefore log k) .station) (OfferCell flow deadline) ≡ callOf (run (callsBefore log k) .station) (OfferCell flow 1)
+
+-- L7-flow: a log of form Flow, whose cells are of their flows' own deadlines
+pub record FlowLogged : Type 0 where
+  -- an event is well formed in it exactly where it is that of a call with a cell's deadline left out
+  pub event-good :
+      (urgent : List Opening) (e : Event) → GoodOpenings mostDeadline 0 urgent → badEvent Flow (e .kind) (e .flow) (e .number) ≡ false
+      → (sortOf (callIn (ownEvent Flow urgent e)) ≡ happens (ownEvent Flow urgent e)) × (flowEvent (ownEvent Flow urgent e) ≡ e)
+  pub event-only : (call : Call) (e : Event) → sortOf call ≡ happens e → badEvent Flow (e .kind) (e .flow) (flowEvent e .number) ≡ false
+  -- what its cells are offered with is the flow's own deadline, before whichever event
+  pub meant : (log : Log) → GoodLog log → (k flow : ℕ) → flow ≤ 15 → FlowMeant log k flow

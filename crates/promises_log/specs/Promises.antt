@@ -17,7 +17,7 @@ use Rattle.logbook.specs.Laws.{FedInPieces, LogsSessions}
 use Rattle.log_lines.specs.Spelled.{AnswersSpelled, RecordsSpelled}
 use Rattle.log_commands.specs.Spelled.{LogCommandsSpelled}
 use Rattle.promises_log.specs.Numbers.{AnswersNumbered}
-use Rattle.promises_log.specs.Logged.{Logged}
+use Rattle.promises_log.specs.Logged.{Logged, FlowLogged}
 use Rattle.promises_log.specs.Sorts.{CallsSorted}
 
 pub record LogPromises : Type 0 where
@@ -48,6 +48,8 @@ pub record LogPromises : Type 0 where
   pub L6-on : (s : List ℕ) → GoesOn s
   -- L7: the log of a list of calls replays as the calls went
   pub L7 : Logged
+  -- and a log of form Flow as calls that offer each cell with its flow's own deadline
+  pub L7-flow : FlowLogged
   -- what each call is to the log, by its numbers
   pub L7-sorts : CallsSorted
   -- and made call by call it is that log

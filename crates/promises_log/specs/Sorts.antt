@@ -25,8 +25,8 @@ pub record CallsSorted : Type 0 where
   -- closings
   pub close-urgent : ByFlow CloseUrgent (λ flow. closes)
   pub close-fair : ByFlow CloseFair (λ flow. closes)
-  -- events: a cell, a packet of 1 to 1,500 bytes, turns, begin and end
-  pub cell : ByFlow OfferCell (λ flow. happens (event 2 flow 0))
+  -- events: a cell of deadline 1 to 4,096, a packet of 1 to 1,500 bytes, turns, begin and end
+  pub cell : ByNumber 4096 OfferCell (λ flow deadline. happens (event 2 flow deadline))
   pub packet : ByNumber 1500 OfferPacket (λ flow length. happens (event 3 flow length))
   pub open-turn : sortOf OpenTurn ≡ happens (event 0 0 0)
   pub lost-turn : sortOf LostTurn ≡ happens (event 1 0 0)
