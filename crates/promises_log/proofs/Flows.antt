@@ -2,7 +2,7 @@
 -- a cell of any other flow is refused, whatever its deadline.
 use mathlib.Core.Path.{_≡_, refl, sym, _∙_, ap}
 use mathlib.Core.Bool.{Bool, true, false, cond, not, _||_, true≢false}
-use mathlib.Core.List.{List, [], _∷_, _++_, map}
+use mathlib.Core.List.{List, [], _∷_, map}
 use Prim.Native.Nat.{ℕ, zero, suc, _+_, _≤_}
 use native.Mathlib.Omega.{arith}
 use borrow.Author.Tests.{eq-eqb, ne-eqb, eqb-true, ltb-false}
@@ -13,7 +13,6 @@ use Rattle.places.specs.Marks.{openIn}
 use Rattle.urgent.specs.declared.Flow.{Flow as UrgentFlow}
 use Rattle.urgent.specs.declared.Answer.{Answer}
 use Rattle.urgent.specs.declared.Answer.the-variants.{Refused, Opened, Closed, Accepted, Sent, Idle}
-use Rattle.urgent.specs.declared.Done.{Done}
 use Rattle.urgent.specs.Lane.{flowAt}
 use Rattle.urgent.proofs.Calls.{offer-2}
 use Rattle.station.specs.declared.Station.{Station}

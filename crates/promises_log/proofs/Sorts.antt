@@ -1,12 +1,12 @@
 -- What each call is to the log, from the tests of its numbers.
 use mathlib.Core.Path.{_≡_, refl, _∙_, ap}
 use mathlib.Core.Bool.{Bool, true, false, cond, _||_}
-use Prim.Native.Nat.{ℕ, _≤_, _<_}
+use Prim.Native.Nat.{ℕ}
 use borrow.Author.Tests.{lt-ltb, le-ltb}
 use lib.Dec.{ltb}
 use Rattle.units.specs.Limits.{outsideOf}
 use Rattle.station.specs.declared.Call.{Call}
-use Rattle.logging.specs.Sorts.{Sort, beyond, opensUrgent, opensFair, closes, happens, event, sortOf}
+use Rattle.logging.specs.Sorts.{Sort, beyond, sortOf}
 use Rattle.promises_log.specs.Sorts.{ByFlow, ByNumber, CallsSorted}
 
 -- a test by the flow alone

@@ -3,7 +3,6 @@ use mathlib.Core.Path.{_≡_}
 use Prim.Native.Nat.{ℕ, _≤_, _<_}
 use Rattle.station.specs.declared.Call.{Call}
 use Rattle.station.specs.declared.Call.the-variants.{OpenUrgent, OpenFair, CloseUrgent, CloseFair, OfferCell, OfferPacket, OpenTurn, LostTurn, Begin, End}
-use Rattle.log.specs.Format.{Event}
 use Rattle.logging.specs.Sorts.{Sort, beyond, opensUrgent, opensFair, closes, happens, event, sortOf}
 
 -- a call with a flow: of flows 0 to 15 it is this, and with any other it is beyond the limits

@@ -16,7 +16,7 @@ pub(crate) fn check(log: &[u8]) {
     answer(&line[..n]);
 }
 
-// Writes a log's records as the lines of a session, or what is wrong.
+// Writes a log's records as the lines of a session, each cell with its own deadline, or what is wrong.
 pub(crate) fn show(log: &[u8]) {
     match log_reading::read(log) {
         Verdict::Good(contents) => records(log, contents),
@@ -57,7 +57,7 @@ fn record_line(log: &[u8], contents: Contents, k: usize, out: &mut [u8], at: usi
     if j < fair {
         return opening_line(false, log_records::fair_opening(log, contents, j), out, at);
     }
-    match log_records::event(log, contents, j - fair) {
+    match log_records::own_event(log, contents, j - fair) {
         Found::Word(word) => log_lines::event(word, out, at),
         Found::Nothing => at,
     }
