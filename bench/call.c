@@ -18,7 +18,7 @@ int main(void) {
     tuhkeliar_open_fair_at(&station, 0, 1);
     clock_gettime(CLOCK_MONOTONIC, &began);
     for (int round = 0; round < ROUNDS; round++) {
-        done += tuhkeliar_offer_cell_at(&station, 0).kind == TUHKELIAR_CELL_ACCEPTED;
+        done += tuhkeliar_offer_cell_at(&station, 0, 4096).kind == TUHKELIAR_CELL_ACCEPTED;
         done += tuhkeliar_turn_at(&station, true).kind == TUHKELIAR_SENT;
         done += tuhkeliar_offer_packet_at(&station, 0, 100).kind == TUHKELIAR_PACKET_ACCEPTED;
         done += tuhkeliar_begin_at(&station).kind == TUHKELIAR_BEGUN;

@@ -32,7 +32,7 @@ public:
 
     std::optional<Fault> fault() {
         if (length_ == 0) return Fault{23, 0};
-        if (bytes_[0] != 1) return Fault{20, 0};
+        if (bytes_[0] != 1 && bytes_[0] != 2) return Fault{20, 0};
         std::uint64_t start = kTableEnd;
         for (int body = 0; body < 3; ++body) {
             if (auto found = entry(body, start)) return found;
@@ -86,8 +86,9 @@ private:
         return std::nullopt;
     }
 
-    static bool good_event(unsigned kind, unsigned flow, unsigned length) {
-        if (kind == 2) return flow < kFlows && length == 0;
+    // A cell has its own deadline in a log of first byte 2, and none in one of first byte 1.
+    bool good_event(unsigned kind, unsigned flow, unsigned length) const {
+        if (kind == 2) return flow < kFlows && (bytes_[0] == 1 ? length == 0 : length >= 1 && length <= kMostDeadline);
         if (kind == 3) return flow < kFlows && length >= 1 && length <= kMostLength;
         return kind <= 5 && flow == 0 && length == 0;
     }

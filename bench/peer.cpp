@@ -105,13 +105,14 @@ public:
         out.line("ok");
     }
 
-    void offer(std::uint64_t flow, Output& out) {
+    void offer(std::uint64_t flow, std::uint64_t deadline, Output& out) {
         if (flow >= kFlows) return out.line("no", 1u);
         Flow& f = flows_[flow];
         if (f.deadline == 0) return out.line("no", 2u);
+        if (deadline < 1 || deadline > f.deadline) return out.line("no", 14u);
         if (f.waiting == kPlaces) return out.line("no", 5u);
-        if (now_ + f.deadline > kSlotEnd) return out.line("no", 7u);
-        const Cell cell{now_ + f.deadline - 1, flow, f.accepted};
+        if (now_ + deadline > kSlotEnd) return out.line("no", 7u);
+        const Cell cell{now_ + deadline - 1, flow, f.accepted};
         ++f.accepted;
         ++f.waiting;
         cells_.insert(cell);
@@ -273,8 +274,8 @@ private:
             fair_.close(a, out);
             return true;
         case 'u':
-            if (!take_number(rest, a) || !rest.empty()) return false;
-            urgent_.offer(a, out);
+            if (!take_number(rest, a) || !take_number(rest, b) || !rest.empty()) return false;
+            urgent_.offer(a, b, out);
             return true;
         case 'f':
             if (!take_number(rest, a) || !take_number(rest, b) || !rest.empty()) return false;

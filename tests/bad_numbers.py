@@ -21,8 +21,8 @@ def limits():
         ),
         "deadlines": paired(
             ("U 0 0", "no 14"), ("U 0 4097", "no 14"), ("U 0 4098", "no 14"), ("U 0 8192", "no 14"),
-            ("U 0 4294967295", "no 14"), ("U 0 4096", "ok"), ("u 0", "ok 0 4095"), ("U 1 1", "ok"), ("u 1", "ok 0 0"),
-            ("U 2 17", "ok"), ("u 2", "ok 0 16"),
+            ("U 0 4294967295", "no 14"), ("U 0 4096", "ok"), ("u 0 4096", "ok 0 4095"), ("U 1 1", "ok"), ("u 1 1", "ok 0 0"),
+            ("U 2 17", "ok"), ("u 2 17", "ok 0 16"),
         ),
         "lengths": paired(
             ("F 0 16", "ok"), ("f 0 0", "no 15"), ("f 0 1501", "no 15"), ("f 0 1502", "no 15"), ("f 0 3000", "no 15"),
@@ -33,7 +33,7 @@ def limits():
             ("F 0 257", "no 13"), ("F 0 65552", "no 13"), ("F 0 2147483649", "no 13"), ("F 0 4294901761", "no 13"),
             ("F 0 1", "ok"), ("U 0 65537", "no 14"), ("U 0 69632", "no 14"), ("U 0 2147483649", "no 14"),
             ("U 0 4294901761", "no 14"), ("U 0 1", "ok"), ("f 0 65537", "no 15"), ("f 0 67036", "no 15"),
-            ("f 0 2147483649", "no 15"), ("f 0 4294901761", "no 15"), ("f 0 1", "ok 0 0 720720"), ("u 0", "ok 0 0"),
+            ("f 0 2147483649", "no 15"), ("f 0 4294901761", "no 15"), ("f 0 1", "ok 0 0 720720"), ("u 0 1", "ok 0 0"),
         ),
         "texts that are no numbers": paired(
             ("F 0 4294967296", "no 11"), ("F 0 017", "no 11"), ("F 0 00", "no 11"), ("F 0 -1", "no 11"), ("F 0 17 ", "no 11"),
@@ -79,16 +79,16 @@ def orders():
 def nothing_changed():
     return {
         "a refused opening opens nothing": paired(
-            ("U 2 0", "no 14"), ("u 2", "no 2"), ("C 2", "no 2"), ("U 2 4097", "no 14"), ("u 2", "no 2"), ("U 2 2", "ok"),
-            ("u 2", "ok 0 1"), ("U 2 0", "no 3"), ("F 3 0", "no 13"), ("f 3 1", "no 2"), ("f 3 0", "no 2"), ("c 3", "no 2"),
+            ("U 2 0", "no 14"), ("u 2 1", "no 2"), ("C 2", "no 2"), ("U 2 4097", "no 14"), ("u 2 1", "no 2"), ("U 2 2", "ok"),
+            ("u 2 2", "ok 0 1"), ("U 2 0", "no 3"), ("F 3 0", "no 13"), ("f 3 1", "no 2"), ("f 3 0", "no 2"), ("c 3", "no 2"),
             ("F 3 17", "no 13"), ("f 3 1", "no 2"), ("F 3 3", "ok"), ("f 3 3", "ok 0 0 720720"), ("F 3 0", "no 3"),
             ("f 3 1", "ok 1 720720 960960"),
         ),
         "a refused number leaves a closed flow closed": paired(
             ("F 0 1", "ok"), ("f 0 1", "ok 0 0 720720"), ("b", "ok 0 0 0"), ("e", "ok 0 0"), ("c 0", "ok"), ("F 0 17", "no 13"),
             ("f 0 0", "no 2"), ("c 0", "no 2"), ("F 0 16", "ok"), ("f 0 1501", "no 15"), ("f 0 1", "ok 1 720720 765765"),
-            ("U 0 2", "ok"), ("u 0", "ok 0 1"), ("t", "sent 0 0 missed 0"), ("C 0", "ok"), ("U 0 4097", "no 14"),
-            ("u 0", "no 2"), ("C 0", "no 2"), ("U 0 1", "ok"), ("u 0", "ok 1 1"),
+            ("U 0 2", "ok"), ("u 0 2", "ok 0 1"), ("t", "sent 0 0 missed 0"), ("C 0", "ok"), ("U 0 4097", "no 14"),
+            ("u 0 2", "no 2"), ("C 0", "no 2"), ("U 0 1", "ok"), ("u 0 1", "ok 1 1"),
         ),
         "packets go on after bad numbers": paired(
             ("F 0 1", "ok"), ("f 0 10", "ok 0 0 7207200"), ("f 0 0", "no 15"), ("f 0 1501", "no 15"),
@@ -99,9 +99,9 @@ def nothing_changed():
             ("b", "ok 0 2 14414400"), ("f 1 0", "no 15"), ("e", "ok 0 2"), ("b", "ok 1 0 14414400"), ("e", "ok 1 0"),
         ),
         "cells go on after bad numbers": paired(
-            ("U 0 3", "ok"), ("u 0", "ok 0 2"), ("U 1 0", "no 14"), ("U 0 0", "no 3"), ("t", "sent 0 0 missed 0"),
-            ("U 1 4097", "no 14"), ("u 0", "ok 1 3"), ("x", "idle missed 0"), ("U 1 0", "no 14"), ("U 1 2", "ok"),
-            ("u 1", "ok 0 3"), ("t", "sent 0 1 missed 0"), ("U 2 0", "no 14"), ("x", "idle missed 1"), ("u 1", "ok 1 5"),
+            ("U 0 3", "ok"), ("u 0 3", "ok 0 2"), ("U 1 0", "no 14"), ("U 0 0", "no 3"), ("t", "sent 0 0 missed 0"),
+            ("U 1 4097", "no 14"), ("u 0 3", "ok 1 3"), ("x", "idle missed 0"), ("U 1 0", "no 14"), ("U 1 2", "ok"),
+            ("u 1 2", "ok 0 3"), ("t", "sent 0 1 missed 0"), ("U 2 0", "no 14"), ("x", "idle missed 1"), ("u 1 2", "ok 1 5"),
             ("f 1 0", "no 2"), ("F 1 0", "no 13"), ("t", "sent 1 1 missed 0"),
         ),
     }
@@ -117,15 +117,15 @@ def every_flow():
             (f"f {flow} 1", f"ok 0 0 {CHARGES[flow]}"),
         )]),
         "bad deadlines of every flow": paired(*[pair for flow in every for pair in (
-            (f"U {flow} 0", "no 14"), (f"U {flow} 4097", "no 14"), (f"u {flow}", "no 2"), (f"U {flow} {4096 - flow}", "ok"),
-            (f"U {flow} 0", "no 3"), (f"u {flow}", f"ok 0 {4095 - flow}"),
+            (f"U {flow} 0", "no 14"), (f"U {flow} 4097", "no 14"), (f"u {flow} 1", "no 2"), (f"U {flow} {4096 - flow}", "ok"),
+            (f"U {flow} 0", "no 3"), (f"u {flow} {4096 - flow}", f"ok 0 {4095 - flow}"),
         )]),
         "one bad number after another": paired(
             *[(f"F {flow} 17", "no 13") for flow in every], *[(f"U {flow} 4097", "no 14") for flow in every],
             *[(f"f {flow} 1501", "no 2") for flow in every], *[(f"F {flow} 16", "ok") for flow in every],
             *[(f"U {flow} 1", "ok") for flow in every], *[(f"F {flow} 17", "no 3") for flow in every],
             *[(f"U {flow} 4097", "no 3") for flow in every], *[(f"f {flow} 1501", "no 15") for flow in every],
-            *[(f"f {flow} 1500", "ok 0 0 67567500") for flow in every], *[(f"u {flow}", "ok 0 0") for flow in every],
+            *[(f"f {flow} 1500", "ok 0 0 67567500") for flow in every], *[(f"u {flow} 1", "ok 0 0") for flow in every],
         ),
         "bad lengths with every flow full": paired(
             *[(f"F {flow} 1", "ok") for flow in every],

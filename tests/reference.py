@@ -72,7 +72,7 @@ class UrgentLane:
         self.accepted = dict(accepted)
         self.waiting = list(waiting)
 
-    # The flow may send until it is closed, each cell within `deadline` slots.
+    # The flow may send until it is closed, each cell within `deadline` slots at most.
     def open(self, flow, deadline):
         refuse(1, flow > 15)
         refuse(3, flow in self.deadline)
@@ -87,13 +87,14 @@ class UrgentLane:
         refuse(12, any(cell.flow == flow for cell in self.waiting))
         del self.deadline[flow]
 
-    # A cell of the flow comes to wait; the answer is the cell.
-    def offer(self, flow):
+    # A cell of the flow comes to wait, wanted within `deadline` slots, which the flow has to allow; the answer is the cell.
+    def offer(self, flow, deadline):
         refuse(1, flow > 15)
         refuse(2, flow not in self.deadline)
+        refuse(14, not 1 <= deadline <= self.deadline[flow])
         refuse(5, full(self.waiting, flow))
-        refuse(7, self.now + self.deadline[flow] > SLOT_END)
-        cell = Cell(flow, self.accepted[flow], self.now + self.deadline[flow] - 1)
+        refuse(7, self.now + deadline > SLOT_END)
+        cell = Cell(flow, self.accepted[flow], self.now + deadline - 1)
         self.accepted[flow] += 1
         self.waiting.append(cell)
         return cell
@@ -202,8 +203,8 @@ def reply(urgent, fair, line):
         case [b"c", flow]:
             fair.close(flow)
             return "ok"
-        case [b"u", flow]:
-            cell = urgent.offer(flow)
+        case [b"u", flow, deadline]:
+            cell = urgent.offer(flow, deadline)
             return f"ok {cell.number} {cell.last}"
         case [b"f", flow, length]:
             packet = fair.offer(flow, length)

@@ -9,6 +9,7 @@ import random
 import sys
 
 import named
+import reference
 
 SMALL_BAD_LINES = [line for lines in named.malformed().values() for line in lines if len(line) <= 40]
 DEADLINES = [1, 1, 2, 2, 3, 3, 4, 5, 8, 12, 12, 20, 20, 40, 40, 100, 300, 1000, 4095, 4096]
@@ -23,7 +24,7 @@ BAD_LENGTHS = [0, 1501, 65537, 4294967295]
 class RandomSession:
     def __init__(self, seed):
         self.rng = random.Random(seed)
-        self.lines = []
+        self.lines, self.lane = [], reference.UrgentLane()  # the urgent lane after these lines
         self.urgent = self.rng.sample(range(16), self.rng.randint(3, 9))
         self.fair = self.rng.sample(range(16), self.rng.randint(3, 9))
 
@@ -33,8 +34,16 @@ class RandomSession:
     # Adds a command; about three lines in a hundred are one that is no command.
     def add(self, command):
         if self.rng.randrange(1000) < 34:
-            self.lines.append(self.spoilt(command.encode("ascii")))
-        self.lines.append(command.encode("ascii"))
+            self.play(self.spoilt(command.encode("ascii")))
+        self.play(command.encode("ascii"))
+
+    # Adds a line, and has the urgent lane answer it.
+    def play(self, line):
+        self.lines.append(line)
+        try:
+            reference.reply(self.lane, reference.FairLane(), line)
+        except reference.Refusal:
+            pass
 
     # A line that is no command, or a good one with a byte changed.
     def spoilt(self, line):
@@ -57,6 +66,12 @@ class RandomSession:
             return self.rng.choice(BAD_LENGTHS)
         return self.rng.choice(LENGTHS) if self.chance(60) else self.rng.randint(1, 1500)
 
+    # A cell of a flow: mostly with the flow's own deadline or one below it, now and then with 0 or one above it.
+    def add_cell(self, flow):
+        own = self.lane.deadline.get(flow, self.rng.choice(DEADLINES))
+        deadlines = [own, self.rng.randint(1, own), 1, own + 1, self.rng.choice(BAD_DEADLINES)]
+        self.add(f"u {flow} {self.rng.choices(deadlines, [44, 40, 8, 4, 4])[0]}")
+
     def open_urgent(self, flow):
         bad = self.chance(12)
         self.add(f"U {flow} {self.rng.choice(BAD_DEADLINES if bad else DEADLINES)}")
@@ -69,7 +84,7 @@ class RandomSession:
     def any_command(self):
         kind = self.rng.choices("ufgtxbeUFCc", [30, 16, 8, 20, 7, 13, 13, 1, 1, 2, 2])[0]
         if kind == "u":
-            self.add(f"u {self.flow(self.urgent)}")
+            self.add_cell(self.flow(self.urgent))
         elif kind == "f":
             self.add(f"f {self.flow(self.fair)} {self.length()}")
         elif kind == "g":
@@ -95,11 +110,12 @@ class RandomSession:
         for _ in range(self.rng.randint(20, 150)):
             self.any_command()
 
-    # Many cells of a few flows at once: places run out, and cells are missed.
+    # Many cells of a few flows at once: places run out, and cells are missed. Then on each, full or not, a bad deadline.
     def fill_urgent(self):
         for flow in self.rng.sample(self.urgent, self.rng.randint(1, 3)):
             for _ in range(self.rng.randint(8, 22)):
-                self.add(f"u {flow}")
+                self.add_cell(flow)
+            self.add(f"u {flow} {self.rng.choice([0, self.lane.deadline.get(flow, 0) + 1, 4097])}")
 
     # Many packets of a few flows at once, and on each, full or not, a bad length and a good one.
     def fill_fair(self):
@@ -115,7 +131,7 @@ class RandomSession:
         length = self.rng.choice(LENGTHS)
         for _ in range(self.rng.randint(1, 4)):
             for flow in self.rng.sample(self.urgent, len(self.urgent)):
-                self.add(f"u {flow}")
+                self.add(f"u {flow} {self.lane.deadline.get(flow, 1)}")
             for flow in self.rng.sample(self.fair, len(self.fair)):
                 self.add(f"f {flow} {length}")
 
@@ -145,12 +161,15 @@ class RandomSession:
         for flow in [*self.rng.sample(range(16), self.rng.randint(6, 9)), self.rng.choice(ABOVE)]:
             self.add(f"C {flow}")
             self.open_urgent(flow)
-            for command in [f"u {flow}", "x" if self.chance(30) else "t", f"u {flow}"]:
-                self.add(command)
+            for offers in (True, False, True):
+                if offers:
+                    self.add_cell(flow)
+                else:
+                    self.add("x" if self.chance(30) else "t")
                 if self.chance(80):
                     self.add(f"C {flow}")
             self.open_urgent(flow)
-            self.add(f"u {flow}")
+            self.add_cell(flow)
 
     # After some begins and ends, flows are closed before a packet comes, while it waits, in service and after its end, and
     # opened again; the last is above 15.
@@ -174,13 +193,14 @@ class RandomSession:
     def misnumber(self):
         for flow in [*self.rng.sample(range(16), self.rng.randint(4, 8)), self.rng.choice(ABOVE)]:
             self.add(f"U {flow} {self.rng.choice(BAD_DEADLINES)}")
+            self.add(f"u {flow} {self.rng.choice(BAD_DEADLINES)}")
             self.add(f"F {flow} {self.rng.choice(BAD_WEIGHTS)}")
             self.add(f"f {flow} {self.rng.choice(BAD_LENGTHS)}")
 
     # The same command again and again.
     def one_kind(self):
         command = self.rng.choice([
-            "t", "x", "b", "e", f"u {self.flow(self.urgent)}", f"f {self.flow(self.fair)} {self.length()}",
+            "t", "x", "b", "e", f"u {self.flow(self.urgent)} {self.rng.choice(DEADLINES)}", f"f {self.flow(self.fair)} {self.length()}",
         ])
         for _ in range(self.rng.randint(5, 60)):
             self.add(command)

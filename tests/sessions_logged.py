@@ -20,7 +20,7 @@ def lasting(seed, count):
 def unlogged(rng):
     flow, above = rng.randrange(16), rng.choice(sessions.ABOVE)
     return rng.choice([
-        *rng.sample(sessions.SMALL_BAD_LINES, 3), b"u %d" % above, b"f %d 1" % above, b"f %d %d" % (flow, rng.choice(sessions.BAD_LENGTHS)),
+        *rng.sample(sessions.SMALL_BAD_LINES, 3), b"u %d 1" % above, b"f %d 1" % above, b"u %d %d" % (flow, rng.choice(sessions.BAD_DEADLINES)), b"f %d %d" % (flow, rng.choice(sessions.BAD_LENGTHS)),
         b"C %d" % above, b"c %d" % above, b"U %d 1" % above, b"F %d 1" % above,
         b"U %d %d" % (flow, rng.choice(sessions.BAD_DEADLINES)), b"F %d %d" % (flow, rng.choice(sessions.BAD_WEIGHTS)),
     ])
@@ -35,7 +35,7 @@ def opening(rng):
 # A line that is an event, refused or not.
 def event(rng):
     flow = rng.randrange(16)
-    return rng.choice([b"t", b"x", b"b", b"e", b"u %d" % flow, b"f %d %d" % (flow, rng.choice(sessions.LENGTHS))])
+    return rng.choice([b"t", b"x", b"b", b"e", b"u %d %d" % (flow, rng.choice(sessions.DEADLINES)), b"f %d %d" % (flow, rng.choice(sessions.LENGTHS))])
 
 
 # A session that begins with many openings and lines that are not logged; then events among such lines, and what may end the log.
