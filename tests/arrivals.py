@@ -54,23 +54,24 @@ class Making:
 
     def offer(self, flow):
         """Offers a cell if the declaration allows that one more is accepted now, and tells whether it is."""
-        burst, period, _ = self.made[flow]
+        burst, period, deadline = self.made[flow]
         if self.lane.now < self.whole[flow] - (burst - 1) * period:
             return False
-        self.lines.append(b'u %d' % flow)
+        self.lines.append(b'u %d %d' % (flow, deadline))
         if reference.full(self.lane.waiting, flow):
             return False
-        self.lane.offer(flow)
+        self.lane.offer(flow, deadline)
         self.whole[flow] = max(self.whole[flow], self.lane.now) + period
         return True
 
     def aside(self):
         """Calls that must not matter: a closing and an opening as before, both refused where a cell waits; another flow opened, or closed
-        when a cell is offered; and some lines of the fair lane."""
+        when a cell is offered; a cell with a bad deadline; and some lines of the fair lane."""
         flow, other = self.rng.randrange(len(self.made)), self.rng.randrange(len(self.made), 17)
         again = [b'C %d' % flow, b'U %d %d' % (flow, self.made[flow][2])]
         opened = [b'U %d %d' % (other, self.rng.choice(sessions.DEADLINES))]
-        self.lines += self.rng.choice([again, again, opened, opened + [b'C %d' % other, b'u %d' % other]])
+        bad = [b'u %d %d' % (flow, self.rng.choice([0, self.made[flow][2] + 1, 4097]))]
+        self.lines += self.rng.choice([again, again, bad, opened, opened + [b'C %d' % other, b'u %d 1' % other]])
         self.lines += [self.fair.pop() for _ in range(min(len(self.fair), self.rng.randint(1, 4)))]
 
     def session(self, kind, turns):

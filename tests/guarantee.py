@@ -18,7 +18,7 @@ LAST_T = 300  # of those by which cells are matched to slots
 # The least number of sessions of each kind: by list, by a cell sent in its last slot, by what is answered to which command, and by arrivals.
 LEAST_SESSIONS = {
     'rate 5,040': 60, 'demand t': 60, 'last slot': 60, 'another flow opened': 90, 'C ok': 90, 'C no 12': 80, 'U no 3': 90, 'U no 14': 90,
-    'u no 1': 80, 'u no 2': 90, 'u no 5': 8, 'f ok': 90, 'b ok': 90, 'no 11': 90, **dict.fromkeys(arrivals.KINDS, 15),
+    'u no 1': 80, 'u no 2': 90, 'u no 5': 8, 'u no 14': 90, 'f ok': 90, 'b ok': 90, 'no 11': 90, **dict.fromkeys(arrivals.KINDS, 15),
 }
 # The least number of lists of each kind that are tried.
 LEAST_LISTS = {
@@ -94,18 +94,23 @@ def none_missed():
 def broken_sessions():
     """Sessions worked out by hand that miss a cell: the one condition that each breaks, its list, its commands and their replies."""
     both, burst = [(1, 2, 1), (1, 2, 2)], [(2, 2, 2)]
-    first = ('U 0 1', 'ok'), ('U 1 2', 'ok'), ('u 0', 'ok 0 0'), ('u 1', 'ok 0 1'), ('t', 'sent 0 0 missed 0')
-    at_once = ('U 0 1', 'ok'), ('U 1 1', 'ok'), ('u 0', 'ok 0 0'), ('u 1', 'ok 0 0'), ('t', 'sent 0 0 missed 1')
-    again = ('t', 'sent 1 0 missed 0'), ('C 1', 'ok'), ('U 1 1', 'ok'), ('u 0', 'ok 1 2'), ('u 1', 'ok 1 2'), ('t', 'sent 0 1 missed 1')
-    cells = ('U 0 2', 'ok'), ('u 0', 'ok 0 1'), ('u 0', 'ok 1 1')
+    opened = ('U 0 1', 'ok'), ('U 1 2', 'ok')
+    first = *opened, ('u 0 1', 'ok 0 0'), ('u 1 2', 'ok 0 1'), ('t', 'sent 0 0 missed 0')
+    at_once = ('U 0 1', 'ok'), ('U 1 1', 'ok'), ('u 0 1', 'ok 0 0'), ('u 1 1', 'ok 0 0'), ('t', 'sent 0 0 missed 1')
+    again = ('t', 'sent 1 0 missed 0'), ('C 1', 'ok'), ('U 1 1', 'ok'), ('u 0 1', 'ok 1 2'), ('u 1 1', 'ok 1 2'), ('t', 'sent 0 1 missed 1')
+    cells = ('U 0 2', 'ok'), ('u 0 2', 'ok 0 1'), ('u 0 2', 'ok 1 1')
+    sooner = ('t', 'sent 1 0 missed 0'), ('u 1 1', 'ok 1 2'), ('u 0 1', 'ok 1 2'), ('t', 'sent 0 1 missed 1')
     return [
         ('admitted', [(1, 2, 1)] * 2, at_once),
-        ('admitted', [(1, 1, 1), (1, 1, 2)], [*first, ('u 0', 'ok 1 1'), ('u 1', 'ok 1 2'), ('t', 'sent 0 1 missed 1')]),
+        ('admitted', [(1, 1, 1), (1, 1, 2)], [*first, ('u 0 1', 'ok 1 1'), ('u 1 2', 'ok 1 2'), ('t', 'sent 0 1 missed 1')]),
         ('opened as declared', both, at_once),
         ('opened as declared', both, [*first, *again]),
-        ('no other flow', burst, [*cells, ('U 1 1', 'ok'), ('u 1', 'ok 0 0'), ('t', 'sent 1 0 missed 0'), ('t', 'sent 0 0 missed 1')]),
-        ('declarations kept', both, [*first[:3], ('u 0', 'ok 1 0'), ('t', 'sent 0 0 missed 1')]),
-        ('declarations kept', both, [*first, ('u 0', 'ok 1 1'), ('t', 'sent 0 1 missed 1')]),
+        ('full deadlines', both, [*opened, ('u 0 1', 'ok 0 0'), ('u 1 1', 'ok 0 0'), ('t', 'sent 0 0 missed 1')]),
+        ('full deadlines', both, [*first, *sooner]),
+        ('full deadlines', burst, [cells[0], ('u 0 1', 'ok 0 0'), ('u 0 1', 'ok 1 0'), ('t', 'sent 0 0 missed 1')]),
+        ('no other flow', burst, [*cells, ('U 1 1', 'ok'), ('u 1 1', 'ok 0 0'), ('t', 'sent 1 0 missed 0'), ('t', 'sent 0 0 missed 1')]),
+        ('declarations kept', both, [*first[:3], ('u 0 1', 'ok 1 0'), ('t', 'sent 0 0 missed 1')]),
+        ('declarations kept', both, [*first, ('u 0 1', 'ok 1 1'), ('t', 'sent 0 1 missed 1')]),
         ('every turn open', burst, [*cells, ('x', 'idle missed 0'), ('t', 'sent 0 0 missed 1')]),
     ]
 
@@ -181,9 +186,9 @@ def room_enough():
     for made, full in (([(16, 5040, 16), (15, 5040, 31), (1, 2, 32)], 0), ([(16, 5040, 16), (16, 5040, 32), (1, 2, 33)], 1)):
         if verdicts([made]) != ['admitted'] or has_room(made[2]) != (full == 0):
             fail('%r is not such a list' % (made,))
-        bursts = ['u %d' % flow for flow in (0, 1) for _ in range(made[flow][0])]
+        bursts = ['u %d %d' % (flow, made[flow][2]) for flow in (0, 1) for _ in range(made[flow][0])]
         lines = ['U %d %d' % (flow, deadline) for flow, (_, _, deadline) in enumerate(made)] + bursts
-        given = named.text(*lines, *(line for now in range(100) for line in ['u 2'] * (now % 2 == 0) + ['t']))
+        given = named.text(*lines, *(line for now in range(100) for line in ['u 2 %d' % made[2][2]] * (now % 2 == 0) + ['t']))
         outcome = Outcome(given, played(given, PROGRAM))
         if outcome.broken(made) or outcome.missed or outcome.late() or outcome.met['u no 5'] != full:
             fail('on %r: %r' % (made, outcome.met))
@@ -196,8 +201,8 @@ def refused_all_the_same():
         fail('the list is not admitted')
     # Flow 1 has a cell in every other slot, and waits while the bursts of the others go in the slots 0 to 47.
     for begun, refused, counts in ((0, range(32, 49, 2), [89, 9, 89, 11]), (1, range(33, 48, 2), [90, 8, 90, 10])):
-        lines = ['U %d %d' % (flow, deadline) for flow, (_, _, deadline) in enumerate(CROWDED)] + ['u 0', 'u 2', 'u 3'] * 16
-        given = named.text(*lines, *(line for now in range(100) for line in ['u 1'] * (now % 2 == begun) + ['t']))
+        lines = ['U %d %d' % (flow, deadline) for flow, (_, _, deadline) in enumerate(CROWDED)] + ['u 0 16', 'u 2 32', 'u 3 48'] * 16
+        given = named.text(*lines, *(line for now in range(100) for line in ['u 1 4096'] * (now % 2 == begun) + ['t']))
         outcome = Outcome(given, played(given, PROGRAM))
         if [slot for slot in outcome.offered[1] if slot not in outcome.accepted[1]] != list(refused):
             fail('of cells from slot %d on those at %r are accepted' % (begun, outcome.accepted[1]))

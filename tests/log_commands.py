@@ -3,6 +3,7 @@ import itertools
 import random
 
 import failures
+import log_streams
 import logged
 import logs
 import logs_paired
@@ -10,6 +11,7 @@ import sessions
 import sessions_logged
 import shift_log
 import worked_logs
+from shift_log import BY_CELL, FORMS
 from support import ROOT, compare, fail, folder, run
 
 SHIFTLOG = ROOT / 'target' / 'bin' / 'shiftlog'
@@ -42,12 +44,15 @@ def by_entry(what, command, given):
 
 
 def log_stored():
-    """the log program's stored run is answered as by the reference"""
+    """the stored runs of the log program and of log_edges are answered as by the reference"""
     stored = ROOT / 'crates' / 'shiftlog'
     command, _, given = (stored / 'stdin').read_bytes().partition(b'\n')
     if logged.answers(command.decode(), given)[0] != (stored / 'stdout').read_bytes():
         fail('the stored run differs from the reference')
-    return 'the stored run of the log program has the reference\'s answer'
+    stored, cases = ROOT / 'crates' / 'log_edges', log_streams.stored_cases()
+    if [(stored / name).read_bytes() for name in ('stdin', 'stdout')] != [b''.join(part) for part in zip(*cases)]:
+        fail('the stored run of log_edges differs from the reference')
+    return 'the stored run of the log program, and %d stored cases, have the reference\'s answers' % len(cases)
 
 
 def by_hand():
@@ -56,8 +61,9 @@ def by_hand():
         if shift_log.bytes_of(logged.log_of(given)[0]) != data:
             fail('%s: the reference differs from what was worked out by hand' % name)
         same(name, entry('write', given=given), (0, data, b'ok %d\n' % len(data)))
-    same('check', entry('check', given=worked_logs.the_log()), (0, b'ok 1 2 1 3 46\n', b''))
-    same('show', entry('show', given=worked_logs.the_log()), (0, b'U 0 3\nU 2 4096\nF 15 16\nt\nu 2\nf 15 1500\n', b''))
+    for data, verdict, cell in ((worked_logs.the_log(), b'ok 1 2 1 3 46\n', b'u 2 4096'), (worked_logs.own_log(), b'ok 2 2 1 3 46\n', b'u 2 300')):
+        same('check', entry('check', given=data), (0, verdict, b''))
+        same('show', entry('show', given=data), (0, b'U 0 3\nU 2 4096\nF 15 16\nt\n%s\nf 15 1500\n' % cell, b''))
     return len(worked_logs.sessions())
 
 
@@ -76,7 +82,7 @@ def kinds_met(kept):
         any(len(log.events) > 800 for log in met),
         any(len(log.urgent) > 9 and len(log.fair) > 9 for log in met),
         any(log.urgent and log.fair and not log.events for log in met),
-        {reply for _, replies in kept for reply in replies} >= {'no 2', 'no 5', 'no 8', 'no 9', 'no 10'},
+        {reply for _, replies in kept for reply in replies} >= {'no 2', 'no 5', 'no 8', 'no 9', 'no 10', 'no 14'},
     ))
 
 
@@ -107,10 +113,11 @@ def log_limits():
         ('a long line', b't\n' + b'x' * 200000 + b'\n' + b't' * 200000 + b'\nb\nt' + b' ' * 70000),
     ):
         by_entry(name, 'write', given)
-    data = shift_log.bytes_of(logs.log_with(random.Random(1), 0, 1, 16377))
-    for name, given in (('the longest log', data), ('a byte more', data + b'\0'), ('5,000 bytes more', data + bytes(5000)), ('far too long', data + bytes(10 ** 6))):
-        by_entry(name, 'check', given)
-        by_entry(name, 'show', given)
+    for first in FORMS:
+        data = shift_log.bytes_of(logs.log_with(random.Random(1), first, 0, 1, 16377))
+        for name, given in (('the longest log', data), ('a byte more', data + b'\0'), ('5,000 bytes more', data + bytes(5000)), ('far too long', data + bytes(10 ** 6))):
+            by_entry(name, 'check', given)
+            by_entry(name, 'show', given)
     return 'logs are written and read up to 65,536 bytes'
 
 
@@ -124,23 +131,24 @@ def beside(home, one, other):
 
 
 def log_files():
-    """two files are compared as by the reference, and so are long ones and empty ones; a file that is missing, or is none, is told"""
+    """two files, of one first byte or of both, are compared as by the reference, and so are long and empty ones; a file that is missing, or is none, is told"""
     home, rng = folder(), random.Random(1)
-    data = shift_log.bytes_of(logs.log_with(rng, 0, 1, 16377))
+    data = shift_log.bytes_of(logs.log_with(rng, BY_CELL, 0, 1, 16377))
     more = data + bytes(9000)
-    long = [(data, more), (more, data), (more, b''), (more, more), (data[:-4], data), (b'', data), *itertools.islice(logs_paired.long_pairs(rng), 1, 4)]
+    long = [(data, more), (more, data), (more, b''), (more, more), (data[:-4], data), (b'', data), *itertools.islice(logs_paired.long_pairs(rng, BY_CELL), 1, 4)]
     settled = [(one, other) for one, other, _, _ in worked_logs.side_by_side()]
     for one, other in settled:
         for command in ('diff', 'tail'):
             by_program('%s, %s' % (one.hex(), other.hex()), '%s %d' % (command, len(one)), one + other)
-    for one, other in settled[1:4] + long:
+    mixed = [(one, other) for one, other in settled if {one[:1], other[:1]} == {b'\1', b'\2'}]
+    for one, other in settled[1:4] + mixed + long:
         beside(home, one, other)
     for command in ('diff', 'tail'):
         for files in (('one', 'none'), ('none', 'one'), ('none', 'none'), ('one', '.'), ('.', 'one'), ('', 'one')):
             status, wrote, said = entry(command, *files, cwd=home)
             if status in (0, 2) or wrote != b'' or said.count(b'\n') != 1:
                 fail('%s %r: status %d, wrote %r, said %r' % (command, files, status, wrote, said))
-    return '%d pairs of logs and %d of files compared as by the reference; a file that is missing is told' % (len(settled), len(long) + 3)
+    return '%d pairs of logs and %d of files compared as by the reference; a file that is missing is told' % (len(settled), len(mixed) + len(long) + 3)
 
 
 def told(words, where, given, what):
@@ -153,7 +161,8 @@ def told(words, where, given, what):
 def log_words():
     """refused logs give status 1, words that are none the usage and status 2, and a read or a write that fails is told"""
     log = worked_logs.the_log()
-    for given in (b'', b'\2', log[:-1], log + b'\0', worked_logs.the_log(fair='0f1100')):
+    own = worked_logs.own_log()
+    for given in (b'', b'\3', log[:-1], log + b'\0', worked_logs.the_log(fair='0f1100'), own[:-1], own + b'\0', b'\1' + own[1:], b'\2' + log[1:]):
         by_entry(given.hex(), 'check', given)
         by_entry(given.hex(), 'show', given)
     for words in NO_WORDS:

@@ -9,7 +9,8 @@ import sys
 
 import reference
 from shift_log import (
-    BEGIN, CELL, END, LAST_FLOW, LAST_LENGTH, LOST_TURN, MOST, NUMBERS, OPEN_TURN, PACKET, Log, bytes_of, difference_line, log_of_bytes, refusal, tail, verdict,
+    BEGIN, BY_CELL, CELL, END, LAST_FLOW, LAST_LENGTH, LOST_TURN, MOST, NUMBERS, OPEN_TURN, PACKET, Log, bytes_of, difference_line, log_of_bytes, refusal, tail,
+    verdict, with_deadlines,
 )
 
 OPENINGS, CLOSINGS = (b"U", b"F"), (b"C", b"c")
@@ -25,13 +26,13 @@ def calls(given):
             yield word, [int(number) for number in numbers], reply
 
 
-# Whether a call's numbers are such as the station can take: the flow, the deadline or weight, the length.
+# Whether a call's numbers are such as the station can take: the flow, the deadline, weight or length.
 def within_limits(word, numbers):
-    largest = {b"U": NUMBERS[0], b"F": NUMBERS[1], b"f": LAST_LENGTH}.get(word)
+    largest = {b"U": NUMBERS[0], b"F": NUMBERS[1], b"u": NUMBERS[0], b"f": LAST_LENGTH}.get(word)
     return all(flow <= LAST_FLOW for flow in numbers[:1]) and (largest is None or 1 <= numbers[1] <= largest)
 
 
-# The log of a session, and the replies that its events got.
+# The log of a session, which has each cell's own deadline, and the replies that its events got.
 def log_of(given):
     opened, events, replies = {b"U": {}, b"F": {}}, [], []
     for word, numbers, reply in calls(given):
@@ -46,14 +47,14 @@ def log_of(given):
             flow, length = (*numbers, 0, 0)[:2]
             events.append((EVENTS[word], flow, length))
             replies.append(reply)
-    return Log(*[sorted(opened[word].items()) for word in OPENINGS], events), replies
+    return Log(BY_CELL, *[sorted(opened[word].items()) for word in OPENINGS], events), replies
 
 
-# A log's records as lines of a session.
+# A log's records as lines of a session, each cell with its deadline.
 def shown(log):
     lines = ["U %d %d" % opening for opening in log.urgent] + ["F %d %d" % opening for opening in log.fair]
-    for kind, flow, length in log.events:
-        numbers = {CELL: [flow], PACKET: [flow, length]}.get(kind, [])
+    for kind, flow, length in with_deadlines(log):
+        numbers = [flow, length] if kind in (CELL, PACKET) else []
         lines.append(" ".join([WORDS[kind], *map(str, numbers)]))
     return "".join(line + "\n" for line in lines).encode("ascii")
 

@@ -1,4 +1,4 @@
-"""The most cells of a list that can go in different slots of their windows, whoever chooses the slots."""
+"""The most cells that can go in different slots of their windows, whoever chooses the slots."""
 import arrivals
 from support import fail
 
@@ -9,15 +9,16 @@ def heaviest(declaration, t):
     return [0] * burst + list(range(period, t - deadline + 1, period)) if deadline <= t else []
 
 
-def matched(windows):
-    """How many cells at most can go: one after the other takes a slot, by an augmenting path if there is one."""
+def matched(windows, usable=None):
+    """How many cells at most can go, in any slots or in those that are usable: one after the other takes a slot, by an augmenting path if
+    there is one."""
     taken = {}
 
     def takes(cell, seen):
         """Whether the cell takes a slot of its window that is not seen yet, whose cell, if it has one, takes another."""
         first, last = windows[cell]
         for slot in range(first, last + 1):
-            if slot not in seen:
+            if slot not in seen and (usable is None or slot in usable):
                 seen.add(slot)
                 if slot not in taken or takes(taken[slot], seen):
                     taken[slot] = cell

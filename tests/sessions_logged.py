@@ -20,7 +20,8 @@ def lasting(seed, count):
 def unlogged(rng):
     flow, above = rng.randrange(16), rng.choice(sessions.ABOVE)
     return rng.choice([
-        *rng.sample(sessions.SMALL_BAD_LINES, 3), b"u %d 1" % above, b"f %d 1" % above, b"u %d %d" % (flow, rng.choice(sessions.BAD_DEADLINES)), b"f %d %d" % (flow, rng.choice(sessions.BAD_LENGTHS)),
+        *rng.sample(sessions.SMALL_BAD_LINES, 3), b"u %d 1" % above, b"f %d 1" % above,
+        b"u %d %d" % (flow, rng.choice(sessions.BAD_DEADLINES)), b"f %d %d" % (flow, rng.choice(sessions.BAD_LENGTHS)),
         b"C %d" % above, b"c %d" % above, b"U %d 1" % above, b"F %d 1" % above,
         b"U %d %d" % (flow, rng.choice(sessions.BAD_DEADLINES)), b"F %d %d" % (flow, rng.choice(sessions.BAD_WEIGHTS)),
     ])

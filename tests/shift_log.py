@@ -2,14 +2,15 @@
 
     shift_log.py < log > verdict
 
-An opening is a flow and a number, an event a kind, a flow and a length. All that is wrong with some bytes is gathered first, and only
-then the fault that counts is looked up.
+An opening is a flow and a number, an event a kind, a flow and a length. In a log of first byte 2 a cell's own deadline stands for its
+length; in one of first byte 1 that is 0, and the deadline is its flow's. All that is wrong with some bytes is gathered first, and only then
+the fault that counts is looked up.
 """
 
 import sys
 from dataclasses import dataclass
 
-FIRST = 1       # the first byte of a log
+FORMS = BY_FLOW, BY_CELL = 1, 2  # the first bytes: a cell has its flow's deadline, or its own
 TABLE_END = 25  # where the bodies begin
 MOST = 65536    # the bytes of the longest log
 ENTRIES = (1, 9, 17)    # where the table tells of urgent openings, fair openings and events
@@ -19,9 +20,10 @@ LAST_FLOW, LAST_LENGTH, MOST_OPENINGS = 15, 1500, 16
 OPEN_TURN, LOST_TURN, CELL, PACKET, BEGIN, END = range(6)
 
 
-# What a log tells: the openings of both lanes and the events, each in its order.
+# What a log tells: its first byte, the openings of both lanes and the events, each in its order.
 @dataclass
 class Log:
+    first: int
     urgent: list
     fair: list
     events: list
@@ -49,7 +51,7 @@ def bytes_of(log):
     for body in bodies:
         table += low_first(start, 4) + low_first(len(body), 4)
         start += len(body)
-    return low_first(FIRST, 1) + table + b"".join(bodies)
+    return low_first(log.first, 1) + table + b"".join(bodies)
 
 
 # A record that is told as one number.
@@ -68,20 +70,20 @@ def good_opening(opening, before, largest):
     return before < flow <= LAST_FLOW and 1 <= number <= largest
 
 
-# Whether an event is well formed.
-def good_event(event):
+# Whether an event of a log with this first byte is well formed.
+def good_event(event, first):
     kind, flow, length = event
     if kind == CELL:
-        return flow <= LAST_FLOW and length == 0
+        return flow <= LAST_FLOW and (length == 0 if first == BY_FLOW else 1 <= length <= NUMBERS[0])
     if kind == PACKET:
         return flow <= LAST_FLOW and 1 <= length <= LAST_LENGTH
     return kind in (OPEN_TURN, LOST_TURN, BEGIN, END) and flow == 0 and length == 0
 
 
-# For each record of a body whether it is well formed.
-def good_records(records, body):
+# For each record of a body, in a log with this first byte, whether it is well formed.
+def good_records(records, body, first):
     if body == 2:
-        return [good_event(event) for event in records]
+        return [good_event(event, first) for event in records]
     flows = [-1] + [flow for flow, _ in records]
     return [good_opening(opening, before, NUMBERS[body]) for opening, before in zip(records, flows)]
 
@@ -123,12 +125,13 @@ def whole_records(data, body):
 
 # All that is wrong with some bytes: places, each with the number of its refusal. No two things are wrong at one place.
 def faults(data):
-    found = [(0, 20)] if data and data[0] != FIRST else []
+    first = data[0] if data else BY_FLOW
+    found = [] if first in FORMS else [(0, 20)]
     found += table_faults(data)
     lengths = stated_lengths(data)
     for body, size in enumerate(SIZES):
         start = TABLE_END + sum(lengths[:body])
-        found += [(start + size * k, 22) for k, good in enumerate(good_records(whole_records(data, body), body)) if not good]
+        found += [(start + size * k, 22) for k, good in enumerate(good_records(whole_records(data, body), body, first)) if not good]
     end = TABLE_END + sum(lengths)  # at the least, where the table is not whole
     if len(data) < end:
         found.append((len(data), 23))
@@ -149,7 +152,15 @@ def refusal(data):
 
 # What a good log tells.
 def log_of_bytes(data):
-    return Log(*[whole_records(data, body) for body in range(3)])
+    return Log(data[0], *[whole_records(data, body) for body in range(3)])
+
+
+# A log's events with the deadline of each cell: in a log of first byte 1 that of its flow's opening, or 1 if there is none.
+def with_deadlines(log):
+    if log.first == BY_CELL:
+        return log.events
+    opened = dict(log.urgent)
+    return [(kind, flow, opened.get(flow, 1) if kind == CELL else length) for kind, flow, length in log.events]
 
 
 # A log's verdict as a line.
@@ -160,12 +171,13 @@ def verdict(data):
     return "ok %d %d %d %d %d" % (data[0], *map(len, log_of_bytes(data).bodies()), len(data))
 
 
-# The record of a body by its index, as a line.
+# The record of a body by its index, as a line; body 3 has the events with the deadline of each cell.
 def record_line(data, body, k):
     refused = refusal(data)
     if refused is not None:
         return "no %d %d" % refused
-    records = log_of_bytes(data).bodies()[body]
+    log = log_of_bytes(data)
+    records = [*log.bodies(), with_deadlines(log)][body]
     return "word %d" % word_of(records[k]) if k < len(records) else "nothing"
 
 
@@ -204,13 +216,13 @@ def difference_line(one, other):
     return "none" if place is None else "at %d" % place
 
 
-# What the writer answers to records told as numbers, as a line, and the room after it.
-def written(bodies, room):
+# What the writer of logs with a first byte answers to records told as numbers, as a line, and the room after it.
+def written(first, bodies, room):
     records = [[record_of(word, size) for word in words] for words, size in zip(bodies, SIZES)]
-    good = [one for body in range(3) for one in good_records(records[body], body)]
+    good = [one for body in range(3) for one in good_records(records[body], body, first)]
     if False in good:
         return "no 22 %d" % good.index(False), room
-    log = bytes_of(Log(*records))
+    log = bytes_of(Log(first, *records))
     if len(log) > min(MOST, len(room)):
         return "no 26", room
     return "ok %d" % len(log), log + room[len(log) :]
