@@ -1,4 +1,4 @@
-/* A station in C: two flows open, three cells and a packet are offered, and the radio comes by.
+/* A station in C: two flows open, three cells and a packet are offered, one of the cells to go at once, and the radio comes by.
 
    rt staticlib tuhkeliar_c
    cc -Iinclude examples/station.c -Ltarget/staticlib -ltuhkeliar_c -o station && ./station
@@ -27,9 +27,9 @@ int main(void) {
     tuhkeliar_fresh_at(&station);
     tuhkeliar_open_urgent_at(&station, 0, 3);
     tuhkeliar_open_urgent_at(&station, 1, 1);
-    tuhkeliar_offer_cell_at(&station, 0);
-    tuhkeliar_offer_cell_at(&station, 1);
-    tuhkeliar_offer_cell_at(&station, 1);
+    tuhkeliar_offer_cell_at(&station, 0, 3);
+    tuhkeliar_offer_cell_at(&station, 1, 1);
+    tuhkeliar_offer_cell_at(&station, 0, 1); /* sooner than its flow has to: it goes first, and the cell of flow 1 is missed */
     turn(true);
     turn(false);
     turn(true);

@@ -24,7 +24,7 @@ extern "C" {
 #endif
 
 /* Goes up by one with every change that a program which uses this header could notice. */
-#define TUHKELIAR_VERSION 3
+#define TUHKELIAR_VERSION 4
 
 /* Flows are 0 to 15 and have so many places each; the largest deadline, weight and length; where slots and tags end. */
 #define TUHKELIAR_FLOWS 16
@@ -135,14 +135,14 @@ enum {
     TUHKELIAR_ALREADY_OPEN = 3,        /* the flow is open in this lane */
     TUHKELIAR_PLACES_FULL = 5,         /* sixteen of the flow wait */
     TUHKELIAR_TAGS_USED_UP = 6,        /* the packet's finish or its number would pass the largest tag */
-    TUHKELIAR_SLOTS_USED_UP = 7,       /* there is no slot left for the cell's window, or for the turn */
+    TUHKELIAR_SLOTS_USED_UP = 7,       /* there is no slot left for the cell's own window, or for the turn */
     TUHKELIAR_PACKET_IN_SERVICE = 8,   /* begin: a packet is in service */
     TUHKELIAR_NOTHING_WAITS = 9,       /* begin: no packet waits */
     TUHKELIAR_NOTHING_IN_SERVICE = 10, /* end: no packet is in service */
     TUHKELIAR_NO_COMMAND = 11,         /* programs only: a line that is no command */
     TUHKELIAR_FLOW_IN_USE = 12,        /* closing: something of the flow waits or is in service */
     TUHKELIAR_BAD_WEIGHT = 13,         /* not 1 to 16 */
-    TUHKELIAR_BAD_DEADLINE = 14,       /* not 1 to 4,096 */
+    TUHKELIAR_BAD_DEADLINE = 14,       /* not 1 to 4,096; of a cell: not 1 to its flow's own */
     TUHKELIAR_BAD_LENGTH = 15,         /* not 1 to 1,500 */
     TUHKELIAR_LIST_TOO_LONG = 16,      /* admission only: more than sixteen declarations */
     TUHKELIAR_BAD_BURST = 17,          /* admission only: not 1 to 16 */
@@ -174,8 +174,8 @@ TUHKELIAR_KEEP tuhkeliar_called tuhkeliar_open_fair(tuhkeliar_station station, u
 TUHKELIAR_KEEP tuhkeliar_called tuhkeliar_close_urgent(tuhkeliar_station station, uint64_t flow);
 TUHKELIAR_KEEP tuhkeliar_called tuhkeliar_close_fair(tuhkeliar_station station, uint64_t flow);
 
-/* Offers a cell, or a packet of this length in bytes. */
-TUHKELIAR_KEEP tuhkeliar_called tuhkeliar_offer_cell(tuhkeliar_station station, uint64_t flow);
+/* Offers a cell with a deadline of its own, at most its flow's; or a packet of this length in bytes. */
+TUHKELIAR_KEEP tuhkeliar_called tuhkeliar_offer_cell(tuhkeliar_station station, uint64_t flow, uint64_t deadline);
 TUHKELIAR_KEEP tuhkeliar_called tuhkeliar_offer_packet(tuhkeliar_station station, uint64_t flow, uint64_t length);
 
 /* A turn of the radio, open or lost. */
@@ -217,8 +217,8 @@ TUHKELIAR_APART tuhkeliar_answer tuhkeliar_close_fair_at(tuhkeliar_station *stat
     return called.answer;
 }
 
-TUHKELIAR_APART tuhkeliar_answer tuhkeliar_offer_cell_at(tuhkeliar_station *station, uint64_t flow) {
-    tuhkeliar_called called = tuhkeliar_offer_cell(*station, flow);
+TUHKELIAR_APART tuhkeliar_answer tuhkeliar_offer_cell_at(tuhkeliar_station *station, uint64_t flow, uint64_t deadline) {
+    tuhkeliar_called called = tuhkeliar_offer_cell(*station, flow, deadline);
     *station = called.station;
     return called.answer;
 }

@@ -6,13 +6,14 @@ import shutil
 import bad_numbers
 import closings
 import named
+import own_deadlines
 import reference
 import sessions
 from playing import LINES
 from support import ROOT, build, compare, fail, folder, played, run
 
 HEADER = ROOT / 'include' / 'tuhkeliar.h'
-EXAMPLE = b"""sent cell 0 of flow 1, missed 1
+EXAMPLE = b"""sent cell 1 of flow 0, missed 1
 sent none, missed 0
 sent cell 0 of flow 0, missed 0
 packet 0: start 0, finish 36036000
@@ -47,13 +48,13 @@ def station_in_c():
         return 'the station in C is left out: no C compiler for x86-64 is installed'
     program = built(ROOT / 'tests' / 'station.c', 'station')
     kept = {'worked': named.worked()[0], 'random': sessions.random_session(1, LINES)}
-    kept.update((name, given) for name, (given, _) in {**closings.closings(), **bad_numbers.bad_numbers()}.items())
+    kept.update((name, given) for name, (given, _) in {**closings.closings(), **bad_numbers.bad_numbers(), **own_deadlines.sessions()}.items())
     for name, given in kept.items():
         pairs = zip(given.split(b'\n'), reference.session(given).split(b'\n'))
         commands = [(line, reply) for line, reply in pairs if reply not in (b'', b'no 11')]
         given, expected = (b''.join(line + b'\n' for line in side) for side in zip(*commands))
         compare('%s in C' % name, given, expected, program)
-    return 'the station in C plays the worked session, those that close flows or give bad numbers and a random one'
+    return 'the station in C plays the worked session, those that close flows, give bad numbers or give cells their own deadlines, and a random one'
 
 
 def example_in_c():

@@ -5,6 +5,8 @@ import subprocess
 import bad_numbers
 import closings
 import named
+import own_deadlines
+import own_windows
 import reference
 import sessions
 from support import PROGRAM, ROOT, compare, fail, start
@@ -12,7 +14,7 @@ from support import PROGRAM, ROOT, compare, fail, start
 SEEDS = range(1, 11)
 LINES = 2000
 PIECES = 3000
-MOST = {b'U': 4096, b'F': 16, b'f': 1500}  # the largest good deadline, weight and length
+MOST = {b'U': 4096, b'F': 16, b'u': 4096, b'f': 1500}  # the largest good deadline, weight, deadline of a cell and length
 
 
 def closings_met(given, replies):
@@ -28,12 +30,13 @@ def bad_numbers_met(given, replies):
     return b'no 4' not in [reply for _, reply in told] and met == {
         (b'U', b'no 1'), (b'U', b'no 3'), (b'U', b'no 14'),
         (b'F', b'no 1'), (b'F', b'no 3'), (b'F', b'no 13'),
+        (b'u', b'no 1'), (b'u', b'no 2'), (b'u', b'no 14'),
         (b'f', b'no 1'), (b'f', b'no 2'), (b'f', b'no 15'),
     }
 
 
 def stored_session():
-    """the program's stored session has the replies of the reference, and closings and bad numbers among its lines"""
+    """the program's stored session has the replies of the reference, and closings, bad numbers and cells with their own deadlines among its lines"""
     folder = ROOT / 'crates' / 'tuhkeliar'
     given, replies = (folder / 'stdin').read_bytes(), (folder / 'stdout').read_bytes()
     if reference.session(given) != replies:
@@ -42,6 +45,8 @@ def stored_session():
         fail('the stored session lacks a reply to closing')
     if not bad_numbers_met(given, replies):
         fail('the stored session lacks a reply to a bad number, or has a wrong one')
+    if not own_windows.all_met(given, replies):
+        fail('the stored session lacks a kind of offer, or has a wrong reply to one')
     return 'the stored session of %d lines has the reference\'s replies' % len(reference.lines_of(given))
 
 
@@ -73,6 +78,11 @@ def bad_number_sessions():
     return by_hand('give bad numbers', bad_numbers.bad_numbers())
 
 
+def own_deadline_sessions():
+    """sessions whose cells have their own deadlines come out as worked out by hand"""
+    return by_hand('give cells their own deadlines', own_deadlines.sessions())
+
+
 def named_sessions():
     """each named session is answered as by the reference"""
     kept = named.named()
@@ -82,7 +92,7 @@ def named_sessions():
 
 
 def random_sessions():
-    """random sessions are answered as by the reference: fixed seeds, with closings and bad numbers in each, and one fresh one"""
+    """random sessions are answered as by the reference: fixed seeds, with closings, bad numbers and offers of every kind in each, and one fresh one"""
     fresh = random.SystemRandom().randrange(10 ** 9)
     for seed in list(SEEDS) + [fresh]:
         given = sessions.random_session(seed, LINES)
@@ -91,6 +101,8 @@ def random_sessions():
             fail('random session %d lacks a reply to closing' % seed)
         if seed in SEEDS and not bad_numbers_met(given, expected):
             fail('random session %d lacks a reply to a bad number, or has a wrong one' % seed)
+        if seed in SEEDS and not own_windows.all_met(given, expected):
+            fail('random session %d lacks a kind of offer, or has a wrong reply to one' % seed)
         compare('random session %d' % seed, given, expected)
     return '%d random sessions of %d lines as by the reference (fresh seed %d)' % (len(SEEDS) + 1, LINES, fresh)
 

@@ -113,7 +113,7 @@ class RandomSession:
     # Many cells of a few flows at once: places run out, and cells are missed. Then on each, full or not, a bad deadline.
     def fill_urgent(self):
         for flow in self.rng.sample(self.urgent, self.rng.randint(1, 3)):
-            for _ in range(self.rng.randint(8, 22)):
+            for _ in range(self.rng.randint(10, 26)):
                 self.add_cell(flow)
             self.add(f"u {flow} {self.rng.choice([0, self.lane.deadline.get(flow, 0) + 1, 4097])}")
 

@@ -13,7 +13,7 @@ static tuhkeliar_answer play(char command, uint64_t flow, uint64_t figure) {
     case 'F': return tuhkeliar_open_fair_at(&station, flow, figure);
     case 'C': return tuhkeliar_close_urgent_at(&station, flow);
     case 'c': return tuhkeliar_close_fair_at(&station, flow);
-    case 'u': return tuhkeliar_offer_cell_at(&station, flow);
+    case 'u': return tuhkeliar_offer_cell_at(&station, flow, figure);
     case 'f': return tuhkeliar_offer_packet_at(&station, flow, figure);
     case 't': return tuhkeliar_turn_at(&station, true);
     case 'x': return tuhkeliar_turn_at(&station, false);
@@ -58,8 +58,8 @@ static bool laid_out(void) {
     tuhkeliar_station s = tuhkeliar_fresh();
     s = tuhkeliar_turn(s, true).station;
     s = tuhkeliar_open_urgent(s, 1, 9).station;
-    s = tuhkeliar_offer_cell(s, 1).station;
-    s = tuhkeliar_offer_cell(s, 1).station;
+    s = tuhkeliar_offer_cell(s, 1, 9).station;
+    s = tuhkeliar_offer_cell(s, 1, 7).station;
     s = tuhkeliar_open_fair(s, 2, 3).station;
     s = tuhkeliar_offer_packet(s, 2, 10).station;
     s = tuhkeliar_offer_packet(s, 2, 20).station;
@@ -74,7 +74,7 @@ static bool laid_out(void) {
     tuhkeliar_fair_flow f = s.fair.flows[2];
     tuhkeliar_packet p = s.fair.packets[34];
     tuhkeliar_service b = s.fair.service;
-    return s.urgent.now.slot == 1 && u.opened && u.deadline == 9 && u.next == 2 && c.held && c.number == 1 && c.last.slot == 9
+    return s.urgent.now.slot == 1 && u.opened && u.deadline == 9 && u.next == 2 && c.held && c.number == 1 && c.last.slot == 7
         && s.fair.time.tag == 720720 && s.fair.largest.tag == 2402400 && b.busy && b.flow == 5 && b.number == 1 && b.length == 2
         && b.finish.tag == 2162160 && f.opened && f.weight == 3 && f.next == 3 && f.finish.tag == 14414400 && p.held && p.number == 2
         && p.length == 30 && p.start.tag == 7207200 && p.finish.tag == 14414400;

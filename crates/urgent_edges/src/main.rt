@@ -62,20 +62,20 @@ fn close(lane: Urgent, flow: u64) -> Urgent {
     after
 }
 
-fn offer(lane: Urgent, flow: u64) -> Urgent {
-    let done = lane.offer(flow);
+fn offer(lane: Urgent, flow: u64, deadline: u64) -> Urgent {
+    let done = lane.offer(flow, deadline);
     let answer = done.answer;
     show(answer);
     let after = done.lane;
     after
 }
 
-// Offers as many cells of a flow, one after the other.
-fn offers(lane: Urgent, flow: u64, times: u64) -> Urgent {
+// Offers as many cells of a flow with one deadline, one after the other.
+fn offers(lane: Urgent, flow: u64, deadline: u64, times: u64) -> Urgent {
     let mut after = lane;
     let mut i: u64 = 0;
     while i < times {
-        after = offer(after, flow);
+        after = offer(after, flow, deadline);
         i += 1;
     }
     after
@@ -121,45 +121,73 @@ fn case(name: &[u8]) {
 fn worked() {
     case(b"D");
     let mut d = open(open(Urgent::fresh(), 0, 3), 1, 1);
-    d = offer(offer(d, 0), 1);
+    d = offer(offer(d, 0, 3), 1, 1);
     turn(turn(d, true), true);
     case(b"E");
-    turn(offer(open(Urgent::fresh(), 0, 1), 0), false);
+    turn(offer(open(Urgent::fresh(), 0, 1), 0, 1), false);
     case(b"F");
-    let f = offer(offer(offer(open(Urgent::fresh(), 0, 2), 0), 0), 0);
+    let f = offers(open(Urgent::fresh(), 0, 2), 0, 2, 3);
     turn(turn(f, true), true);
     case(b"G");
-    let g = offers(open(Urgent::fresh(), 15, 4096), 15, 17);
-    offer(turn(g, true), 15);
+    let g = offers(open(Urgent::fresh(), 15, 4096), 15, 4096, 17);
+    offer(turn(g, true), 15, 4096);
     case(b"H");
     let mut h = Urgent::fresh();
     let now = Slot(3999999999);
     h.now = now;
-    h = open(open(h, 0, 1), 1, 2);
-    h = offer(offer(h, 0), 1);
+    h = open(h, 0, 3);
+    h = offer(offer(offer(h, 0, 2), 0, 1), 0, 2);
     h = turn(turn(h, true), true);
-    offer(turn(h, false), 0);
+    offer(turn(h, false), 0, 1);
 }
 
 fn closings() {
     case(b"a flow closed and opened again");
-    let mut lane = close(offer(open(Urgent::fresh(), 0, 2), 0), 0);
+    let mut lane = close(offer(open(Urgent::fresh(), 0, 2), 0, 2), 0);
     lane = close(close(turn(lane, true), 0), 0);
-    lane = offer(open(offer(lane, 0), 0, 5), 0);
+    lane = offer(open(offer(lane, 0, 2), 0, 5), 0, 5);
     case(b"its last cell missed");
-    close(turn(close(offer(open(lane, 1, 1), 1), 1), false), 1);
+    close(turn(close(offer(open(lane, 1, 1), 1, 1), 1), false), 1);
+    case(b"opened again with a smaller deadline");
+    let mut less = close(turn(offer(open(Urgent::fresh(), 0, 5), 0, 5), true), 0);
+    less = offer(open(less, 0, 2), 0, 3);
+    offer(offer(less, 0, 5), 0, 2);
+}
+
+fn own_deadlines() {
+    case(b"the later number first");
+    let late = offer(offer(open(Urgent::fresh(), 0, 5), 0, 5), 0, 2);
+    turn(turn(late, true), true);
+    case(b"deadline 1 behind fifteen of 4096");
+    let behind = offers(open(Urgent::fresh(), 3, 4096), 3, 4096, 15);
+    turn(turn(offer(behind, 3, 1), true), true);
+    case(b"the later number missed first");
+    let missed = offer(offer(open(Urgent::fresh(), 0, 2), 0, 2), 0, 1);
+    turn(turn(missed, false), true);
+    case(b"one last slot: the lowest flow, then the lowest number");
+    let mut same = offer(offer(open(open(Urgent::fresh(), 1, 2), 4, 9), 4, 2), 1, 2);
+    same = offer(offer(turn(same, false), 4, 1), 1, 1);
+    turn(same, true);
+    case(b"a bad deadline before full");
+    let mut full = offers(open(Urgent::fresh(), 2, 3), 2, 3, 16);
+    full = offer(offer(offer(full, 2, 0), 2, 4), 2, 18446744073709551615);
+    offer(offer(full, 2, 3), 2, 1);
 }
 
 fn bad_numbers() {
     case(b"flow numbers");
     let mut lane = open(open(Urgent::fresh(), 16, 1), 18446744073709551615, 0);
-    lane = offer(offer(lane, 16), 18446744073709551615);
+    lane = offer(offer(lane, 16, 1), 18446744073709551615, 0);
     lane = close(close(lane, 16), 18446744073709551615);
     case(b"deadlines");
     lane = open(open(open(lane, 0, 0), 0, 4097), 0, 18446744073709551615);
     lane = open(open(lane, 0, 4096), 0, 4096);
+    case(b"deadlines of cells");
+    lane = offer(offer(offer(lane, 0, 0), 0, 4097), 0, 18446744073709551615);
+    lane = offer(offer(open(lane, 1, 7), 1, 8), 1, 4096);
+    lane = offer(offer(offer(lane, 0, 4096), 0, 1), 1, 7);
     case(b"a shut flow");
-    close(offer(lane, 1), 1);
+    close(offer(offer(lane, 2, 0), 2, 1), 2);
 }
 
 fn used_up() {
@@ -167,41 +195,42 @@ fn used_up() {
     let mut lane = Urgent::fresh();
     let near = Slot(3999995904);
     lane.now = near;
-    lane = open(open(lane, 0, 4096), 1, 4095);
-    offer(offer(turn(offer(lane, 0), true), 0), 1);
-    case(b"full before used up");
+    lane = turn(offer(open(lane, 0, 4096), 0, 4096), true);
+    offer(offer(lane, 0, 4096), 0, 4095);
+    case(b"a bad deadline before full, and full before used up");
     let mut full = Urgent::fresh();
     let early = Slot(3999999990);
     full.now = early;
-    full = offers(open(full, 0, 10), 0, 17);
+    full = offers(open(full, 0, 10), 0, 10, 17);
     let late = Slot(3999999999);
     full.now = late;
-    turn(offer(turn(offer(full, 0), true), 0), true);
+    full = turn(offer(offer(full, 0, 11), 0, 10), true);
+    turn(offer(offer(full, 0, 11), 0, 1), true);
 }
 
 fn unreachable_states() {
     case(b"the last number");
-    offer(offer(written(5, 3, 18446744073709551615, 5, 6), 0), 0);
+    offer(
+        offer(written(5, 3, 18446744073709551615, 5, 6), 0, 3),
+        0,
+        3,
+    );
     case(b"cells long gone");
     turn(turn(turn(written(9, 3, 0, 1, 0), true), true), true);
     case(b"two cells due now");
     turn(written(9, 3, 0, 9, 9), false);
     case(b"the last slots of all");
-    turn(
-        offer(
-            written(
-                18446744073709551615,
-                18446744073709551615,
-                0,
-                18446744073709551615,
-                3,
-            ),
-            0,
-        ),
-        true,
+    let mut end = written(
+        18446744073709551615,
+        18446744073709551615,
+        0,
+        18446744073709551615,
+        3,
     );
+    end = turn(offer(end, 0, 1), true);
+    offer(end, 0, 18446744073709551615);
     case(b"no deadline");
-    offer(written(0, 0, 0, 1, 1), 0);
+    offer(offer(written(0, 0, 0, 1, 1), 0, 0), 0, 1);
     case(b"a shut flow with cells waiting");
     let mut shut = written(0, 3, 18446744073709551615, 1, 1);
     shut.flows[0] = Flow {
@@ -210,7 +239,7 @@ fn unreachable_states() {
         next: 18446744073709551615,
     };
     shut = turn(close(shut, 0), true);
-    offer(open(shut, 0, 4), 0);
+    offer(open(shut, 0, 4), 0, 4);
     case(b"the last number, kept through a closing");
     let mut last = Urgent::fresh();
     last.flows[0] = Flow {
@@ -218,12 +247,13 @@ fn unreachable_states() {
         deadline: 3,
         next: 18446744073709551615,
     };
-    offer(open(close(last, 0), 0, 4), 0);
+    offer(open(close(last, 0), 0, 4), 0, 4);
 }
 
 fn main() {
     worked();
     closings();
+    own_deadlines();
     bad_numbers();
     used_up();
     unreachable_states();
