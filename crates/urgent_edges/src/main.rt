@@ -210,11 +210,7 @@ fn used_up() {
 
 fn unreachable_states() {
     case(b"the last number");
-    offer(
-        offer(written(5, 3, 18446744073709551615, 5, 6), 0, 3),
-        0,
-        3,
-    );
+    offer(offer(written(5, 3, 18446744073709551615, 5, 6), 0, 3), 0, 3);
     case(b"cells long gone");
     turn(turn(turn(written(9, 3, 0, 1, 0), true), true), true);
     case(b"two cells due now");
