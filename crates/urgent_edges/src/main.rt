@@ -89,11 +89,17 @@ fn turn(lane: Urgent, usable: bool) -> Urgent {
     after
 }
 
-// A lane as before any call, but at slot n, with flow 0 open and one cell waiting at each of two places of it.
-fn written(n: u64, deadline: u64, next: u64, first: u64, second: u64) -> Urgent {
+// A lane as before any call, but at slot n.
+fn at(n: u64) -> Urgent {
     let mut lane = Urgent::fresh();
     let now = Slot(n);
     lane.now = now;
+    lane
+}
+
+// The same, with flow 0 open and one cell waiting at each of two places of it.
+fn written(n: u64, deadline: u64, next: u64, first: u64, second: u64) -> Urgent {
+    let mut lane = at(n);
     lane.flows[0] = Flow {
         opened: true,
         deadline: deadline,
@@ -132,10 +138,7 @@ fn worked() {
     let g = offers(open(Urgent::fresh(), 15, 4096), 15, 4096, 17);
     offer(turn(g, true), 15, 4096);
     case(b"H");
-    let mut h = Urgent::fresh();
-    let now = Slot(3999999999);
-    h.now = now;
-    h = open(h, 0, 3);
+    let mut h = open(at(3999999999), 0, 3);
     h = offer(offer(offer(h, 0, 2), 0, 1), 0, 2);
     h = turn(turn(h, true), true);
     offer(turn(h, false), 0, 1);
@@ -192,16 +195,10 @@ fn bad_numbers() {
 
 fn used_up() {
     case(b"the longest deadline at the end of the slots");
-    let mut lane = Urgent::fresh();
-    let near = Slot(3999995904);
-    lane.now = near;
-    lane = turn(offer(open(lane, 0, 4096), 0, 4096), true);
+    let lane = turn(offer(open(at(3999995904), 0, 4096), 0, 4096), true);
     offer(offer(lane, 0, 4096), 0, 4095);
     case(b"a bad deadline before full, and full before used up");
-    let mut full = Urgent::fresh();
-    let early = Slot(3999999990);
-    full.now = early;
-    full = offers(open(full, 0, 10), 0, 10, 17);
+    let mut full = offers(open(at(3999999990), 0, 10), 0, 10, 17);
     let late = Slot(3999999999);
     full.now = late;
     full = turn(offer(offer(full, 0, 11), 0, 10), true);
@@ -216,15 +213,9 @@ fn unreachable_states() {
     case(b"two cells due now");
     turn(written(9, 3, 0, 9, 9), false);
     case(b"the last slots of all");
-    let mut end = written(
-        18446744073709551615,
-        18446744073709551615,
-        0,
-        18446744073709551615,
-        3,
-    );
-    end = turn(offer(end, 0, 1), true);
-    offer(end, 0, 18446744073709551615);
+    let most: u64 = 18446744073709551615;
+    let end = turn(offer(written(most, most, 0, most, 3), 0, 1), true);
+    offer(end, 0, most);
     case(b"no deadline");
     offer(offer(written(0, 0, 0, 1, 1), 0, 0), 0, 1);
     case(b"a shut flow with cells waiting");
