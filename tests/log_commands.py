@@ -113,11 +113,13 @@ def log_limits():
         ('a long line', b't\n' + b'x' * 200000 + b'\n' + b't' * 200000 + b'\nb\nt' + b' ' * 70000),
     ):
         by_entry(name, 'write', given)
-    for first in FORMS:
-        data = shift_log.bytes_of(logs.log_with(random.Random(1), first, 0, 1, 16377))
-        for name, given in (('the longest log', data), ('a byte more', data + b'\0'), ('5,000 bytes more', data + bytes(5000)), ('far too long', data + bytes(10 ** 6))):
-            by_entry(name, 'check', given)
-            by_entry(name, 'show', given)
+    older, data = (shift_log.bytes_of(logs.log_with(random.Random(1), first, 0, 1, 16377)) for first in FORMS)
+    for name, given in (
+        ('the longest log of first byte 1', older), ('the longest log', data), ('a byte more', data + b'\0'), ('5,000 bytes more', data + bytes(5000)),
+        ('far too long', data + bytes(10 ** 6)),
+    ):
+        by_entry(name, 'check', given)
+        by_entry(name, 'show', given)
     return 'logs are written and read up to 65,536 bytes'
 
 
@@ -135,7 +137,7 @@ def log_files():
     home, rng = folder(), random.Random(1)
     data = shift_log.bytes_of(logs.log_with(rng, BY_CELL, 0, 1, 16377))
     more = data + bytes(9000)
-    long = [(data, more), (more, data), (more, b''), (more, more), (data[:-4], data), (b'', data), *itertools.islice(logs_paired.long_pairs(rng, BY_CELL), 1, 4)]
+    long = [(data, more), (more, data), (more, b''), (more, more), (data[:-4], data), (b'', data), *itertools.islice(logs_paired.long_pairs(rng), 1, 4)]
     settled = [(one, other) for one, other, _, _ in worked_logs.side_by_side()]
     for one, other in settled:
         for command in ('diff', 'tail'):

@@ -81,7 +81,7 @@ def drawn(make):
 
 def some_bytes(rng):
     """Bytes to be read: good logs, damaged ones in every way, tables and noise."""
-    for first, urgent, fair, events in ((BY_FLOW, 1, 1, 2), (BY_CELL, 1, 1, 2), (BY_FLOW, 2, 0, 1), (BY_CELL, 0, 2, 3)):
+    for first, urgent, fair, events in ((BY_FLOW, 1, 1, 2), (BY_CELL, 2, 0, 1), (BY_CELL, 0, 2, 3)):
         data = shift_log.bytes_of(logs.log_with(rng, first, urgent, fair, events))
         yield from logs.each_byte_changed(data)
         yield from logs.each_field_set(data)
@@ -91,8 +91,8 @@ def some_bytes(rng):
         yield data
         yield from logs.cut_and_joined(rng, data)
         yield from (logs.damaged(rng, data) for _ in range(60))
-    yield from (logs.table(rng) for _ in range(4000))
-    yield from (logs.noise(rng) for _ in range(4000))
+    yield from (logs.table(rng) for _ in range(3500))
+    yield from (logs.noise(rng) for _ in range(3500))
 
 
 def faults_met(lines):
@@ -116,24 +116,23 @@ def log_faults():
     if not faults_met([answer.decode() for _, answer in cases]):
         fail('a refusal is not among the verdicts')
     short = hold('logs of seed %d' % fresh, cases)
-    long = hold('long logs', (reading(data) for first in FORMS for data in logs.long_ones(random.Random(1), first)))
+    long = hold('long logs', map(reading, logs.long_ones(random.Random(1))))
     return '%d logs, good and damaged, and %d long ones are read as by the reference (fresh seed %d)' % (short, long, fresh)
 
 
 def log_records():
     """the records of a log by their index, events also with the deadlines of their cells, and past the last, are the reference's; by hand first"""
     def cases(rng):
-        for _ in range(60):
+        for _ in range(45):
             data = shift_log.bytes_of(logs.log(rng))
             counts = [len(records) for records in shift_log.log_of_bytes(data).bodies()]
             for body, count in enumerate([*counts, counts[2]]):
                 for k in [*range(count + 3), 16, sum(counts), 2 ** 30, 2 ** 31, 2 ** 32 - 1]:
                     yield finding(data, body, k)
                 yield finding(logs.damaged(rng, data), body, rng.randrange(count + 2))
-        for first in FORMS:
+        for first, spots in ((BY_FLOW, ((0, 1), (2, 16376), (3, 0), (3, 16376))), (BY_CELL, ((0, 0), (1, 0), (2, 16377), (2, 16384), (3, 16376)))):
             data = shift_log.bytes_of(logs.log_with(rng, first, 1, 0, 16377))
-            for body, k in ((0, 0), (0, 1), (1, 0), (2, 0), (2, 16376), (2, 16377), (2, 16384), (3, 0), (3, 16376), (3, 16377)):
-                yield finding(data, body, k)
+            yield from (finding(data, body, k) for body, k in spots)
     for data, body, k, line in worked_logs.records():
         if shift_log.record_line(data, body, k) != line:
             fail('record %d of body %d of %s is %r by hand' % (k, body, data.hex(), line))
@@ -149,9 +148,9 @@ def log_pairs():
         if (shift_log.difference_line(one, other), shift_log.tail(one, other).hex()) != (line, tail):
             fail('%s and %s are %s and %r by hand' % (one.hex(), other.hex(), line, tail))
     by_hand = [(one, other) for one, other, _, _ in worked_logs.side_by_side()]
-    made, fresh = drawn(lambda rng: (pair for _ in range(70) for pair in logs_paired.pairs(rng)))
+    made, fresh = drawn(lambda rng: (pair for _ in range(50) for pair in logs_paired.pairs(rng)))
     short = hold('pairs of seed %d' % fresh, itertools.starmap(comparing, by_hand + made))
-    long = hold('long pairs', (comparing(*pair) for first in FORMS for pair in logs_paired.long_pairs(random.Random(1), first)))
+    long = hold('long pairs', itertools.starmap(comparing, logs_paired.long_pairs(random.Random(1))))
     return '%d pairs of logs and %d long ones are compared as by the reference (fresh seed %d)' % (short, long, fresh)
 
 
@@ -170,5 +169,5 @@ def log_writer():
     by_hand = [one[:3] for one in worked_logs.writings()]
     made, fresh = drawn(given)
     short = hold('writings of seed %d' % fresh, itertools.starmap(writing, by_hand + made))
-    long = hold('long writings', (writing(*one) for first in FORMS for one in logs_written.long_ones(random.Random(1), first)))
+    long = hold('long writings', itertools.starmap(writing, logs_written.long_ones(random.Random(1))))
     return '%d writings and %d long ones as by the reference (fresh seed %d)' % (short, long, fresh)

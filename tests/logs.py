@@ -14,8 +14,11 @@ HUGE = [65535, 65536, 65537, 2**24, 2**31, 2**32 - 64, 2**32 - 25, 2**32 - 4, 2*
 FIELDS = [1, 5, 9, 13, 17, 21]
 # What the last two bytes of an event may tell, most of it at an edge.
 LENGTHS = [0, 1, 2, 255, 256, 257, 1500, 1501, 4095, 4096, 4097, 4352, 8192, 32768, 65535]
-# Openings and events of logs that are as long as can be, or a little longer.
-FULL = [(0, 1, 16377), (1, 0, 16377), (0, 0, 16377), (0, 0, 16378), (0, 1, 16378), (1, 1, 16377), (2, 3, 16374), (16, 16, 16353), (16, 16, 16354)]
+# First byte, openings and events of logs that are as long as can be, or a little longer.
+FULL = [
+    (1, 0, 1, 16377), (2, 1, 0, 16377), (1, 0, 0, 16377), (2, 0, 0, 16378), (1, 0, 1, 16378), (2, 1, 1, 16377), (1, 2, 3, 16374), (2, 16, 16, 16353),
+    (1, 16, 16, 16354),
+]
 
 
 # A number up to a largest one, often at an edge.
@@ -133,27 +136,25 @@ def noise(rng):
     return tabled([25, urgent, 25 + urgent, fair, 25 + urgent + fair, events], body, rng.choice(FORMS))
 
 
-# Logs with this first byte whose stated length is about the longest, with the bytes that the table asks for, fewer and more; and others as long.
-def long_ones(rng, first):
-    for urgent, fair, events in FULL:
-        data = bytes_of(log_with(rng, first, urgent, fair, events))
+# Logs whose stated length is about the longest, with the bytes that the table asks for, fewer and more; and others as long.
+def long_ones(rng):
+    for made in FULL:
+        data = bytes_of(log_with(rng, *made))
         yield data
         yield data[:-1]
         yield data + b"\0"
         yield data[:-4] + bytes([BEGIN, 0, 0, 1])
-    full = bytes_of(log_with(rng, first, 0, 1, 16377))
-    short = bytes_of(log_with(rng, first, 1, 1, 3))
+    full = bytes_of(log_with(rng, BY_CELL, 0, 1, 16377))
+    short = bytes_of(log_with(rng, BY_CELL, 1, 1, 3))
     yield from (full + rng.randbytes(more) for more in (1, 2, 3, 4000))
     yield from (short + bytes(65537 + more - len(short)) for more in (-1, 0, 1, 4000))
     yield full[:28] + bytes([END, 1, 0, 0]) + full[32:]
     yield full[:40000] + bytes([PACKET, 3, 0xDD, 5]) + full[40004:]
-    yield full[:65532] + bytes([CELL, 3, first - BY_FLOW, 16])
-    yield full[:65532] + bytes([CELL, 3, 0, 16 * (first - BY_FLOW)])
-    yield tabled([25, 0, 25, 0, 25, 65512], bytes(65512), first)
-    yield tabled([25, 0, 25, 0, 25, 65508], bytes(65511), first)
-    yield tabled([25, 48, 73, 48, 121, 65416], bytes(65415 + 96), first)
-    yield bytes(70000)
-    yield bytes([first]) + bytes(69999)
+    yield from (full[:65532] + bytes([CELL, 3, low, high]) for low, high in ((0, 0), (1, 0), (0, 16), (1, 16)))
+    yield tabled([25, 0, 25, 0, 25, 65512], bytes(65512), BY_CELL)
+    yield tabled([25, 0, 25, 0, 25, 65508], bytes(65511), BY_FLOW)
+    yield tabled([25, 48, 73, 48, 121, 65416], bytes(65415 + 96), BY_CELL)
+    yield from (bytes([first]) + bytes(69999) for first in range(4))
 
 
 if __name__ == "__main__":

@@ -100,14 +100,15 @@ def pairs(rng):
             yield rng.choice([(ours, theirs), (theirs, ours)])
 
 
-# Pairs of logs with this first byte that are as long as can be, and of some that are longer.
-def long_pairs(rng, first):
-    full = logs.log_with(rng, first, 0, 1, 16377)
+# Pairs of logs that are as long as can be, and of some that are longer.
+def long_pairs(rng):
+    full = logs.log_with(rng, BY_CELL, 0, 1, 16377)
     data, none = bytes_of(full), going_on(full, [])
     last = going_on(full, [*full.events[:-1], (PACKET, 15, 1500 if full.events[-1][2] != 1500 else 1)])
     for ours, theirs in (
         (data, data), (data, none), (none, data), (data, last), (last, data), (last, going_on(full, full.events[:-1])), (data + b"\0", data), (data, data + b"\0"),
         (data[:-1], data), (going_on(full, full.events[:9000]), data), (data, bytes(70000)),
-        (bytes_of(logs.log_with(rng, first, 0, 1, 16378)), none), (none, bytes_of(logs.log_with(rng, first, 0, 0, 16378))),
+        (bytes_of(logs.log_with(rng, BY_CELL, 0, 1, 16378)), none), (none, bytes_of(logs.log_with(rng, BY_CELL, 0, 0, 16378))),
+        (data, bytes_of(logs.log_with(rng, BY_FLOW, 0, 1, 16377))), (bytes_of(Log(BY_FLOW, full.urgent, full.fair, [])), data),
     ):
         yield ours, theirs

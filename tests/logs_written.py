@@ -1,7 +1,7 @@
 """Maker of what the writer is given: the first byte, three bodies of records told as numbers, and the length of the room."""
 
 import logs
-from shift_log import BEGIN, BY_FLOW, CELL, END, LOST_TURN, MOST, NUMBERS, OPEN_TURN, PACKET, TABLE_END, record_of, word_of
+from shift_log import BEGIN, BY_CELL, BY_FLOW, CELL, END, LOST_TURN, MOST, NUMBERS, OPEN_TURN, PACKET, TABLE_END, record_of, word_of
 
 TOP = 2**32 - 1
 MOST_ROOM = 70000
@@ -89,12 +89,12 @@ def crowded_ones(first):
 
 
 # Logs about as long as can be, in rooms about as long, with a bad record in some of them.
-def long_ones(rng, first):
-    for urgent, fair, count in logs.FULL:
+def long_ones(rng):
+    for first, urgent, fair, count in logs.FULL:
         bodies = words_of(logs.log_with(rng, first, urgent, fair, count))
         for room in (MOST - 1, MOST, MOST + 1, MOST_ROOM):
             yield first, bodies, room
         yield first, made_bad(rng, first, bodies, 2, count - 1), rng.choice([MOST, MOST_ROOM, 100])
-    yield first, [[], [], [0] * 17000], MOST_ROOM
-    yield first, [[], [], [0] * 16999 + [6]], MOST_ROOM
-    yield first, [[], [], [0] * 16378 + [6]], 0
+    yield BY_CELL, [[], [], [0] * 17000], MOST_ROOM
+    yield BY_FLOW, [[], [], [0] * 16999 + [6]], MOST_ROOM
+    yield BY_CELL, [[], [], [0] * 16378 + [6]], 0
