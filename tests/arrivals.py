@@ -32,13 +32,13 @@ def chances(rng, kind, flows, turns):
 
 
 def fair_lines(rng):
-    """Lines of the fair lane, with bad numbers of both lanes and lines that are no command among them."""
+    """Lines of the fair lane, with bad numbers of both lanes and lines that are no command among them; none that offers a cell, even by a slip."""
     play = sessions.RandomSession(rng.randrange(10**6))
     for flow in play.fair:
         play.open_fair(flow)
     for stretch in (play.misnumber, play.fill_fair, play.drain_fair, play.rewire_fair, play.misnumber):
         stretch()
-    return play.lines
+    return [line for line in play.lines if line[:2] != b'u ' or line in sessions.SMALL_BAD_LINES]
 
 
 class Making:
