@@ -130,9 +130,10 @@ returns-5 c =
 last-of-requires : tie.Need-last-of-requires Inv-loop μ-loop
 last-of-requires c κs =
     let tested = c .before .before .before .before .before .before in
-    let s = call tested .args in
-    (inside (s .deadline) (flowAt (s .self) (s .flow) .deadline) (good-deadline tested) .0,
-    ltb-false slotLimit (s .self .now .0 + s .deadline) (sym (c .before .window-passes .ensures) ∙ c .if6 .left))
+    let s = call tested .args in (
+      inside (s .deadline) (flowAt (s .self) (s .flow) .deadline) (good-deadline tested) .0,
+      ltb-false slotLimit (s .self .now .0 + s .deadline) (sym (c .before .window-passes .ensures) ∙ c .if6 .left),
+    )
 
 mul-cells : tie.Need-mul-cells Inv-loop μ-loop
 mul-cells c = search needs
