@@ -5,10 +5,10 @@ use Rattle.urgent_edges.proofs.offers.Statement.{statement}
 use Rattle.urgent_edges.proofs.offers.Tie as tie
 
 abbrev Inv-loop : tie.InvT-loop
-Inv-loop flow times after₀ i₀ after i = i ≤ times
+Inv-loop flow deadline times after₀ i₀ after i = i ≤ times
 
 abbrev μ-loop : tie.MeasureT-loop
-μ-loop flow times after₀ i₀ after i = times - i
+μ-loop flow deadline times after₀ i₀ after i = times - i
 
 loop-holds : tie.Need-loop-holds Inv-loop μ-loop
 loop-holds c = search needs
