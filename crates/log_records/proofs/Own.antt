@@ -7,7 +7,8 @@ use native.Mathlib.Omega.{arith}
 use borrow.Author.Tests.{eq-eqb, ne-eqb, leb-true}
 use lib.Dec.{ltb, leb}
 use lib.ListN.{length}
-use Rattle.log.specs.declared.Form.the-variants.{Flow}
+use Rattle.log.specs.declared.Form.{Form}
+use Rattle.log.specs.declared.Form.the-variants.{Flow, Own}
 use Rattle.log.specs.declared.Found.the-variants.{Word, Nothing}
 use Rattle.log.specs.Format.{Opening}
 use Rattle.log.specs.Words.{eventWord}
@@ -34,10 +35,11 @@ module _ (s : List ℕ) (flow at : ℕ) where
   not-opened zero l = refl
   not-opened (suc left) l = absurd (omega arith)
 
--- ---- an event's number where a cell has its flow's deadline
+-- ---- the number of an event that is no cell, and of a cell that has its flow's deadline
 module _ (urgent : List Opening) (word : ℕ) where
-  pub no-cell : (word % 256 ≡ 2 → ⊥) → word ≡ ownWord Flow urgent word
-  no-cell e = rw (ne-eqb (word % 256) 2 e) (sym (words-back .event word))
+  pub no-cell : (word % 256 ≡ 2 → ⊥) → (form : Form) → word ≡ ownWord form urgent word
+  no-cell e Flow = rw (ne-eqb (word % 256) 2 e) (sym (words-back .event word))
+  no-cell e Own = sym (words-back .event word)
 
   pub cell : word % 256 ≡ 2 → (deadline : ℕ) → deadline ≡ deadlineIn urgent (word / 256 % 256) → word % 65536 + 65536 * deadline ≡ ownWord Flow urgent word
   cell e deadline d =

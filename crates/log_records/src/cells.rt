@@ -2,7 +2,6 @@
 ghost use mathlib.Core.Path.{_≡_};
 ghost use Prim.Native.Nat.{_+_, _*_, _≤_, _<_};
 ghost use lib.ListN.{length};
-ghost use Rattle.log.specs.declared.Form.the-variants.{Flow};
 ghost use Rattle.log.specs.Own.{deadlineIn};
 ghost use Rattle.log.specs.Reading.{openingsAt};
 ghost use Rattle.log_records.specs.Found.{ownWord};
@@ -14,22 +13,14 @@ pub(crate) fn own_word(log: &[u8], form: Form, openings: usize, word: u32) -> u3
     requires { ⌜ 25 + 3 * openings ≤ length (now log) ⌝ }
     ensures { λ r. ⌜ r ≡ ownWord form (openingsAt (now (log .entry)) 25 openings) word ⌝ }
 {
-    match form {
-        Form::Flow => flow_word(log, openings, word),
-        Form::Own => word,
-    }
-}
-
-// The same, where a cell has its flow's deadline.
-fn flow_word(log: &[u8], openings: usize, word: u32) -> u32
-    requires { ⌜ 25 + 3 * openings ≤ length (now log) ⌝ }
-    ensures { λ r. ⌜ r ≡ ownWord Flow (openingsAt (now (log .entry)) 25 openings) word ⌝ }
-{
     if word % 256 != 2 {
         return word;
     }
     let flow = word / 256 % 256;
-    word % 65_536 + 65_536 * deadline_of(log, openings, flow as u64) as u32
+    match form {
+        Form::Flow => word % 65_536 + 65_536 * deadline_of(log, openings, flow as u64) as u32,
+        Form::Own => word,
+    }
 }
 
 // The deadline with which a flow was opened, by the first of so many openings that is its own; 1 where none is.
