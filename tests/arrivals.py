@@ -38,7 +38,7 @@ def fair_lines(rng):
         play.open_fair(flow)
     for stretch in (play.misnumber, play.fill_fair, play.drain_fair, play.rewire_fair, play.misnumber):
         stretch()
-    return [line for line in play.lines if line[:2] != b'u ' or line in sessions.SMALL_BAD_LINES]
+    return [line for line in play.lines if line[:2] != b'u ']
 
 
 class Making:

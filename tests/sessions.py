@@ -12,6 +12,7 @@ import named
 import reference
 
 SMALL_BAD_LINES = [line for lines in named.malformed().values() for line in lines if len(line) <= 40]
+URGENT_WORDS = (b"U", b"C", b"u", b"t", b"x")
 DEADLINES = [1, 1, 2, 2, 3, 3, 4, 5, 8, 12, 12, 20, 20, 40, 40, 100, 300, 1000, 4095, 4096]
 ABOVE = [16, 17, 99, 255, 256, 65536, 4294967295]
 LENGTHS = [1, 2, 3, 7, 40, 64, 64, 100, 100, 576, 1499, 1500]
@@ -37,13 +38,14 @@ class RandomSession:
             self.play(self.spoilt(command.encode("ascii")))
         self.play(command.encode("ascii"))
 
-    # Adds a line, and has the urgent lane answer it.
+    # Adds a line, and has the urgent lane answer it if it may be a call of its.
     def play(self, line):
         self.lines.append(line)
-        try:
-            reference.reply(self.lane, reference.FairLane(), line)
-        except reference.Refusal:
-            pass
+        if line[:1] in URGENT_WORDS:
+            try:
+                reference.reply(self.lane, None, line)
+            except reference.Refusal:
+                pass
 
     # A line that is no command, or a good one with a byte changed.
     def spoilt(self, line):
