@@ -107,7 +107,7 @@ fn record(log: &[u8], c: Contents, body: usize, k: usize) -> Found {
         URGENT => log_records::urgent_opening(log, c, k),
         FAIR => log_records::fair_opening(log, c, k),
         EVENTS => log_records::event(log, c, k),
-        _ => log_records::own_event(log, c, k),
+        _ => log_cells::own_event(log, c, k),
     }
 }
 

@@ -1,3 +1,2 @@
 pub mod Found
-pub mod Own
 pub mod Records

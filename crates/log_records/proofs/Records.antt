@@ -1,23 +1,18 @@
 -- Of bytes that were read as a log, the records by index are the log's.
 use mathlib.Core.Path.{_≡_, sym, _∙_, ap, subst}
-use mathlib.Core.Bool.{false}
-use mathlib.Core.List.{List, [], _∷_}
-use Prim.Native.Nat.{ℕ, zero, suc, _+_, _*_, _/_, _≤_, _<_}
+use mathlib.Core.List.{List}
+use Prim.Native.Nat.{ℕ, _+_, _*_, _/_, _≤_, _<_}
 use native.Mathlib.Omega.{arith}
 use lib.ListN.{length, getD}
-use Rattle.log.specs.declared.Form.{Form}
 use Rattle.log.specs.declared.Contents.{Contents}
 use Rattle.log.specs.declared.Found.the-variants.{Word}
-use Rattle.log.specs.Format.{Opening, Event, Log, GoodEvents, badEvent}
-use Rattle.log.specs.Faults.{formAt, urgentLength, fairLength, eventLength, fairStart, eventStart}
+use Rattle.log.specs.Format.{Opening, Event, Log}
+use Rattle.log.specs.Faults.{urgentLength, fairLength, eventLength, fairStart, eventStart}
 use Rattle.log.specs.Words.{openingWord, eventWord}
-use Rattle.log.specs.Own.{ownEvent}
 use Rattle.log.specs.Reading.{Reading, Good, Bad, openingsAt, eventsAt, logAt, contentsOf, readOf, verdictOf}
 use Rattle.log.proofs.ByIndex.{by-index}
-use Rattle.log.proofs.Encoded.{event-bytes}
-use Rattle.log.proofs.Words.{words-back}
 use Rattle.log.proofs.Held.{Held, held}
-use Rattle.log_records.specs.Found.{openingIn, eventIn, urgentFound, fairFound, eventFound, ownOf, ownFound}
+use Rattle.log_records.specs.Found.{openingIn, eventIn, urgentFound, fairFound, eventFound}
 use Rattle.log_records.specs.Laws.{RecordsFound}
 use Rattle.log_records.proofs.Found.{opening-past, opening-there, event-past, event-there}
 
@@ -32,12 +27,6 @@ module _ (s : List ℕ) (start count k : ℕ) where
   event-is d l m =
       event-there s start count k l (omega arith)
       ∙ ap (λ (e : Event). Word (eventWord e)) (sym (by-index s start count k .event d l))
-
--- an event of a good log is well formed
-good-at : (form : Form) (es : List Event) (k : ℕ) (d : Event) → GoodEvents form es → k < length es → badEvent form (getD es k d .kind) (getD es k d .flow) (getD es k d .number) ≡ false
-good-at form [] k d g l = absurd (omega arith)
-good-at form (e ∷ es) zero d g l = g .0
-good-at form (e ∷ es) (suc k) d g l = good-at form es k d (g .1) (omega arith)
 
 module _ (s : List ℕ) (reads : readOf s ≡ Good (logAt s)) where
   abbrev c : Contents
@@ -70,14 +59,6 @@ module _ (s : List ℕ) (reads : readOf s ≡ Good (logAt s)) where
       ∙ ap (λ (n : ℕ). eventIn s (eventStart s) n k) (H .events)
       ∙ event-is s (eventStart s) (eventLength s / 4) k d (omega (arith, l, H .events)) (omega (arith, H .events, H .events-long, H .all))
 
-  own : (k : ℕ) (d : Event) → k < c .events → ownFound s c k ≡ Word (eventWord (ownEvent (formAt s) (logAt s .urgent) (getD (logAt s .events) k d)))
-  own k d l =
-      let e = getD (logAt s .events) k d in
-      let small = event-bytes (formAt s) (e .kind) (e .flow) (e .number) (good-at (formAt s) (logAt s .events) k d (H .good .events) l) in
-      ap (ownOf (formAt s) (openingsAt s 25 (c .urgent))) (events k d l)
-      ∙ ap (λ (x : Event). Word (eventWord (ownEvent (formAt s) (openingsAt s 25 (c .urgent)) x))) (words-back .event-back e (small .0) (small .1))
-      ∙ ap (λ (n : ℕ). Word (eventWord (ownEvent (formAt s) (openingsAt s 25 n) e))) (H .urgent)
-
   standing : RecordsFound s (logAt s)
   standing =
       record {
@@ -87,8 +68,6 @@ module _ (s : List ℕ) (reads : readOf s ≡ Good (logAt s)) where
         fair-past = λ k l. opening-past s (25 + 3 * c .urgent) (c .fair) k l;
         events = events;
         events-past = λ k l. event-past s (25 + 3 * c .urgent + 3 * c .fair) (c .events) k l;
-        own = own;
-        own-past = λ k l. ap (ownOf (formAt s) (openingsAt s 25 (c .urgent))) (event-past s (25 + 3 * c .urgent + 3 * c .fair) (c .events) k l);
       }
 
 -- the log of a reading that is good

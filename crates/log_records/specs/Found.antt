@@ -4,14 +4,11 @@ use mathlib.Core.List.{List}
 use Prim.Native.Nat.{ℕ, _+_, _*_}
 use lib.Dec.{ltb, leb}
 use lib.ListN.{length}
-use Rattle.log.specs.declared.Form.{Form}
 use Rattle.log.specs.declared.Contents.{Contents}
 use Rattle.log.specs.declared.Found.{Found}
 use Rattle.log.specs.declared.Found.the-variants.{Word, Nothing}
-use Rattle.log.specs.Format.{Opening}
-use Rattle.log.specs.Words.{openingWord, eventOf, eventWord}
-use Rattle.log.specs.Own.{ownEvent}
-use Rattle.log.specs.Reading.{openingAt, openingsAt, eventAt}
+use Rattle.log.specs.Words.{openingWord, eventWord}
+use Rattle.log.specs.Reading.{openingAt, eventAt}
 
 -- opening k of a body that has so many from a place on, if its bytes are all there
 abbrev pub openingIn : List ℕ → ℕ → ℕ → ℕ → Found
@@ -30,15 +27,3 @@ fairFound s c k = openingIn s (25 + 3 * c .urgent) (c .fair) k
 
 abbrev pub eventFound : List ℕ → Contents → ℕ → Found
 eventFound s c k = eventIn s (25 + 3 * c .urgent + 3 * c .fair) (c .events) k
-
--- ---- an event with its cell's own deadline, given the form and the urgent openings of its log
-abbrev pub ownWord : Form → List Opening → ℕ → ℕ
-ownWord form urgent word = eventWord (ownEvent form urgent (eventOf word))
-
-abbrev pub ownOf : Form → List Opening → Found → Found
-ownOf form urgent (Word word) = Word (ownWord form urgent word)
-ownOf form urgent Nothing = Nothing
-
--- where an event is there, so are all the openings before it
-abbrev pub ownFound : List ℕ → Contents → ℕ → Found
-ownFound s c k = ownOf (c .form) (openingsAt s 25 (c .urgent)) (eventFound s c k)

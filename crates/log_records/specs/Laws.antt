@@ -6,11 +6,10 @@ use lib.ListN.{length, getD}
 use Rattle.log.specs.declared.Found.the-variants.{Word, Nothing}
 use Rattle.log.specs.Format.{Opening, Event, Log}
 use Rattle.log.specs.Words.{openingWord, eventWord}
-use Rattle.log.specs.Own.{ownEvent}
 use Rattle.log.specs.Reading.{contentsOf}
-use Rattle.log_records.specs.Found.{urgentFound, fairFound, eventFound, ownFound}
+use Rattle.log_records.specs.Found.{urgentFound, fairFound, eventFound}
 
--- With the form and the counts of the log, each record is the log's own, an event also with its cell's own deadline, and past the last of a body there is none.
+-- With the counts of the log, each record is the log's own, and past the last of a body there is none.
 pub record RecordsFound (s : List ℕ) (log : Log) : Type 0 where
   pub urgent : (k : ℕ) (d : Opening) → k < length (log .urgent) → urgentFound s (contentsOf log) k ≡ Word (openingWord (getD (log .urgent) k d))
   pub urgent-past : (k : ℕ) → length (log .urgent) ≤ k → urgentFound s (contentsOf log) k ≡ Nothing
@@ -18,5 +17,3 @@ pub record RecordsFound (s : List ℕ) (log : Log) : Type 0 where
   pub fair-past : (k : ℕ) → length (log .fair) ≤ k → fairFound s (contentsOf log) k ≡ Nothing
   pub events : (k : ℕ) (d : Event) → k < length (log .events) → eventFound s (contentsOf log) k ≡ Word (eventWord (getD (log .events) k d))
   pub events-past : (k : ℕ) → length (log .events) ≤ k → eventFound s (contentsOf log) k ≡ Nothing
-  pub own : (k : ℕ) (d : Event) → k < length (log .events) → ownFound s (contentsOf log) k ≡ Word (eventWord (ownEvent (log .form) (log .urgent) (getD (log .events) k d)))
-  pub own-past : (k : ℕ) → length (log .events) ≤ k → ownFound s (contentsOf log) k ≡ Nothing

@@ -1,13 +1,11 @@
 // The records of a log that was read, one by one, by body and index.
 mod bodies;
-mod cells;
 
 ghost use mathlib.Core.Path.{_≡_};
-ghost use Rattle.log_records.specs.Found.{urgentFound, fairFound, eventFound, ownFound};
+ghost use Rattle.log_records.specs.Found.{urgentFound, fairFound, eventFound};
 use bodies::after_openings;
 use bodies::event_in;
 use bodies::opening_in;
-use cells::own_word;
 use log::Contents;
 use log::Found;
 
@@ -36,16 +34,4 @@ pub fn event(log: &[u8], c: Contents, k: usize) -> Found
     let fair = after_openings(log.len(), URGENT, c.urgent);
     let events = after_openings(log.len(), fair, c.fair);
     event_in(log, events, c.events, k)
-}
-
-// The event of an index, a cell with its own deadline: where the log tells none, that of its flow's opening.
-pub fn own_event(log: &[u8], c: Contents, k: usize) -> Found
-    ensures { λ r. ⌜ r ≡ ownFound (now (log .entry)) c k ⌝ }
-{
-    let form = c.form;
-    let urgent = c.urgent;
-    match event(log, c, k) {
-        Found::Word(word) => Found::Word(own_word(log, form, urgent, word)),
-        Found::Nothing => Found::Nothing,
-    }
 }

@@ -11,6 +11,7 @@ use Rattle.log.proofs.GoesOn.{goes-on}
 use Rattle.log_judging.proofs.Judging.{judged}
 use Rattle.log_writing.proofs.Writing.{writes}
 use Rattle.log_records.proofs.Records.{records-found}
+use Rattle.log_cells.proofs.Found.{own-found}
 use Rattle.recorder.proofs.Recorded.{records, notes-on}
 use Rattle.recorded.proofs.Wrote.{writes-logs}
 use Rattle.logbook.proofs.Pieces.{fed-in-pieces, logs-sessions}
@@ -44,6 +45,7 @@ log-promises =
       L1-3 = reads;
       L1-bytes = encoded;
       L2-records = records-found;
+      L2-cells = own-found;
       L3-one = one-fault;
       L3-only = one-reader;
       L4 = λ form urgent fair events room. writes (lentLog form urgent fair events) room;

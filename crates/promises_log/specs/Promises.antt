@@ -11,6 +11,7 @@ use Rattle.log.specs.Laws.{Encoded, Reads, OneFault, OneReader, FirstDecide, Go
 use Rattle.log_judging.specs.Judging.{Judged}
 use Rattle.log_writing.specs.Writing.{Writes, Keeps}
 use Rattle.log_records.specs.Laws.{RecordsFound}
+use Rattle.log_cells.specs.Laws.{OwnFound}
 use Rattle.recorder.specs.Laws.{Records, NotesOn}
 use Rattle.recorded.specs.Laws.{WritesLogs}
 use Rattle.logbook.specs.Laws.{FedInPieces, LogsSessions}
@@ -29,6 +30,8 @@ pub record LogPromises : Type 0 where
   pub L1-bytes : (log : Log) → Encoded log
   -- of bytes that are a log, a record by its body and index is the log's own, and past the last there is none
   pub L2-records : (s : List ℕ) (log : Log) → readOf s ≡ Good log → RecordsFound s log
+  -- and so is an event with its cell's own deadline, which is that of its flow's opening where the log tells none
+  pub L2-cells : (s : List ℕ) (log : Log) → readOf s ≡ Good log → OwnFound s log
   -- no two faults stand at one place
   pub L3-one : OneFault
   -- and no other function of bytes has L1 to L3

@@ -57,7 +57,7 @@ fn record_line(log: &[u8], contents: Contents, k: usize, out: &mut [u8], at: usi
     if j < fair {
         return opening_line(false, log_records::fair_opening(log, contents, j), out, at);
     }
-    match log_records::own_event(log, contents, j - fair) {
+    match log_cells::own_event(log, contents, j - fair) {
         Found::Word(word) => log_lines::event(word, out, at),
         Found::Nothing => at,
     }

@@ -1,4 +1,4 @@
--- `log_records::cells::deadline_of` meets its contract. The invariant: the openings left lie within the bytes, and give the deadline that all of
+-- `log_cells::deadline_of` meets its contract. The invariant: the openings left lie within the bytes, and give the deadline that all of
 -- them do. The measure is the openings left.
 use mathlib.Core.Path.{_≡_, refl, sym, _∙_}
 use Prim.Native.Nat.{_+_, _*_, _≤_}
@@ -6,10 +6,10 @@ use native.Mathlib.Omega.{arith}
 use lib.ListN.{length}
 use Rattle.log.specs.Own.{deadlineIn}
 use Rattle.log.specs.Reading.{openingsAt}
-use Rattle.log_records.proofs.Own.{opened-here, opened-later, not-opened}
+use Rattle.log_cells.proofs.Own.{opened-here, opened-later, not-opened}
 use borrow.Author.Needs.{needs}
-use Rattle.log_records.proofs.cells.deadline_of.Statement.{statement}
-use Rattle.log_records.proofs.cells.deadline_of.Tie as tie
+use Rattle.log_cells.proofs.deadline_of.Statement.{statement}
+use Rattle.log_cells.proofs.deadline_of.Tie as tie
 
 abbrev Inv-loop : tie.InvT-loop
 Inv-loop log openings flow at₀ left₀ at left =

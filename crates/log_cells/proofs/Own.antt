@@ -16,7 +16,8 @@ use Rattle.log.specs.Faults.{byteAt, twoAt}
 use Rattle.log.specs.Own.{deadlineIn}
 use Rattle.log.specs.Reading.{openingsAt, eventAt}
 use Rattle.log.proofs.Words.{words-back}
-use Rattle.log_records.specs.Found.{eventIn, ownWord}
+use Rattle.log_records.specs.Found.{eventIn}
+use Rattle.log_cells.specs.Own.{ownWord}
 
 -- ---- the opening at a place is the flow's, or one of those after it is, or none is
 module _ (s : List ℕ) (flow at : ℕ) where

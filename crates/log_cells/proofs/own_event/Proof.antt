@@ -1,14 +1,14 @@
--- `log_records::own_event` meets its contract: where the event is there, so are the openings.
+-- `log_cells::own_event` meets its contract: where the event is there, so are the openings.
 use mathlib.Core.Path.{sym, _∙_, ap}
 use Prim.Native.Nat.{_+_, _*_}
 use native.Mathlib.Omega.{arith}
 use Rattle.log.specs.declared.Found.the-variants.{Word}
 use Rattle.log.specs.Reading.{openingsAt}
-use Rattle.log_records.specs.Found.{ownOf}
-use Rattle.log_records.proofs.Own.{all-there}
+use Rattle.log_cells.specs.Own.{ownOf}
+use Rattle.log_cells.proofs.Own.{all-there}
 use borrow.Author.Needs.{needs}
-use Rattle.log_records.proofs.own_event.Statement.{statement}
-use Rattle.log_records.proofs.own_event.Tie as tie
+use Rattle.log_cells.proofs.own_event.Statement.{statement}
+use Rattle.log_cells.proofs.own_event.Tie as tie
 
 event-requires : tie.Need-event-requires
 event-requires c κs = search needs

@@ -1,11 +1,11 @@
--- `log_records::cells::own_word` meets its contract: no cell, one with the deadline of its flow's opening, or one that tells its own.
+-- `log_cells::own_word` meets its contract: no cell, one with the deadline of its flow's opening, or one that tells its own.
 use mathlib.Core.Path.{sym}
 use Rattle.log.specs.Reading.{openingsAt}
 use Rattle.log.proofs.Words.{words-back}
-use Rattle.log_records.proofs.Own.{no-cell, cell}
+use Rattle.log_cells.proofs.Own.{no-cell, cell}
 use borrow.Author.Needs.{needs}
-use Rattle.log_records.proofs.cells.own_word.Statement.{statement}
-use Rattle.log_records.proofs.cells.own_word.Tie as tie
+use Rattle.log_cells.proofs.own_word.Statement.{statement}
+use Rattle.log_cells.proofs.own_word.Tie as tie
 
 returns : tie.Need-returns
 returns c = let a = c .before .before .args in no-cell (openingsAt (a .log .now) 25 (a .openings)) (a .word) (c .if1 .taken) (a .form)
