@@ -1,7 +1,10 @@
 // What each call is to the log.
 ghost use mathlib.Core.Path.{_≡_};
-ghost use Rattle.station.specs.declared.Call.the-variants.{OpenUrgent, OpenFair, OfferCell, OfferPacket};
-ghost use Rattle.logging.specs.Sorts.{sortOf, sortedOf, closingSort};
+ghost use mathlib.Core.Bool.{false, cond, _||_};
+ghost use Prim.Native.Nat.{_≤_};
+ghost use Rattle.units.specs.Limits.{noSuchFlow};
+ghost use Rattle.station.specs.declared.Call.the-variants.{OpenUrgent, OpenFair};
+ghost use Rattle.logging.specs.Sorts.{beyond, happens, event, sortOf, sortedOf, closingSort};
 use crate::Sorted;
 use station::Call;
 use units::LAST_FLOW;
@@ -15,8 +18,8 @@ pub fn sort(call: Call) -> Sorted
         Call::OpenFair(flow, weight) => opens_fair(flow, weight),
         Call::CloseUrgent(flow) => closes(flow),
         Call::CloseFair(flow) => closes(flow),
-        Call::OfferCell(flow, deadline) => cell(flow, deadline),
-        Call::OfferPacket(flow, length) => packet(flow, length),
+        Call::OfferCell(flow, deadline) => offered(2, flow, deadline, units::bad_deadline(deadline)),
+        Call::OfferPacket(flow, length) => offered(3, flow, length, units::bad_length(length)),
         Call::OpenTurn => Sorted::Happens(0),
         Call::LostTurn => Sorted::Happens(1),
         Call::Begin => Sorted::Happens(4),
@@ -60,28 +63,16 @@ fn closes(flow: u64) -> Sorted
     Sorted::Closes
 }
 
-// What a cell is.
-fn cell(flow: u64, deadline: u64) -> Sorted
-    ensures { λ r. ⌜ r ≡ sortedOf (sortOf (OfferCell flow deadline)) ⌝ }
+// What an offer is: an event of this kind with its flow and its number, unless one of them is beyond its limits.
+fn offered(kind: u64, flow: u64, number: u64, bad: bool) -> Sorted
+    requires { ⌜ (kind ≤ 5) × (bad ≡ false → number ≤ 4096) ⌝ }
+    ensures { λ r. ⌜ r ≡ sortedOf (cond (noSuchFlow flow || bad) beyond (happens (event kind flow number))) ⌝ }
 {
     if LAST_FLOW < flow {
         return Sorted::Beyond;
     }
-    if units::bad_deadline(deadline) {
+    if bad {
         return Sorted::Beyond;
     }
-    Sorted::Happens((2 + 256 * flow + 65_536 * deadline) as u32)
-}
-
-// What a packet is.
-fn packet(flow: u64, length: u64) -> Sorted
-    ensures { λ r. ⌜ r ≡ sortedOf (sortOf (OfferPacket flow length)) ⌝ }
-{
-    if LAST_FLOW < flow {
-        return Sorted::Beyond;
-    }
-    if units::bad_length(length) {
-        return Sorted::Beyond;
-    }
-    Sorted::Happens((3 + 256 * flow + 65_536 * length) as u32)
+    Sorted::Happens((kind + 256 * flow + 65_536 * number) as u32)
 }

@@ -1,5 +1,9 @@
--- `sort` meets its contract: each call by its own leaf.
+-- `sort` meets its contract: each call by its own leaf. The number of an offer that is within its limits is small enough for a word.
+use mathlib.Core.Path.{sym, _∙_}
+use native.Mathlib.Nat.{le-trans}
+use native.Mathlib.Omega.{arith}
 use borrow.Author.Needs.{needs}
+use Rattle.units.proofs.Limits.{inside}
 use Rattle.logging.proofs.sorting.sort.Statement.{statement}
 use Rattle.logging.proofs.sorting.sort.Tie as tie
 
@@ -30,14 +34,20 @@ closes-requires-2 c κs = search needs
 enum-known-call-5 : tie.Need-enum-known-call-5
 enum-known-call-5 c = search needs
 
-cell-requires : tie.Need-cell-requires
-cell-requires c κs = search needs
+bad-deadline-requires : tie.Need-bad-deadline-requires
+bad-deadline-requires c κs = search needs
+
+offered-requires : tie.Need-offered-requires
+offered-requires c κs = (omega arith, λ e. inside _ 4096 (sym (c .bad-deadline .ensures) ∙ e) .1)
 
 enum-known-call-6 : tie.Need-enum-known-call-6
 enum-known-call-6 c = search needs
 
-packet-requires : tie.Need-packet-requires
-packet-requires c κs = search needs
+bad-length-requires : tie.Need-bad-length-requires
+bad-length-requires c κs = search needs
+
+offered-requires-2 : tie.Need-offered-requires-2
+offered-requires-2 c κs = (omega arith, λ e. le-trans (inside _ 1500 (sym (c .bad-length .ensures) ∙ e) .1) (omega arith))
 
 enum-told : tie.Need-enum-told
 enum-told c = search needs
@@ -64,10 +74,10 @@ returns-4 : tie.Need-returns-4
 returns-4 c = rw (c .before .before .call4 .given .1) (c .closes2 .ensures)
 
 returns-5 : tie.Need-returns-5
-returns-5 c = rw (c .before .before .call5 .given .1) (c .cell .ensures)
+returns-5 c = rw (c .before .before .before .call5 .given .1, ← c .before .bad-deadline .ensures) (c .offered .ensures)
 
 returns-6 : tie.Need-returns-6
-returns-6 c = rw (c .before .before .call6 .given .1) (c .packet .ensures)
+returns-6 c = rw (c .before .before .before .call6 .given .1, ← c .before .bad-length .ensures) (c .offered2 .ensures)
 
 returns-7 : tie.Need-returns-7
 returns-7 c = rw (c .enum-told .given .1)
@@ -94,9 +104,11 @@ sort-spec =
     enum-known-call-4
     closes-requires-2
     enum-known-call-5
-    cell-requires
+    bad-deadline-requires
+    offered-requires
     enum-known-call-6
-    packet-requires
+    bad-length-requires
+    offered-requires-2
     enum-told
     enum-told-2
     enum-told-3
