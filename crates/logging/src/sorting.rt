@@ -18,8 +18,8 @@ pub fn sort(call: Call) -> Sorted
         Call::OpenFair(flow, weight) => opens_fair(flow, weight),
         Call::CloseUrgent(flow) => closes(flow),
         Call::CloseFair(flow) => closes(flow),
-        Call::OfferCell(flow, deadline) => offered(2, flow, deadline, units::bad_deadline(deadline)),
-        Call::OfferPacket(flow, length) => offered(3, flow, length, units::bad_length(length)),
+        Call::OfferCell(flow, deadline) => offer(2, flow, deadline, units::bad_deadline(deadline)),
+        Call::OfferPacket(flow, length) => offer(3, flow, length, units::bad_length(length)),
         Call::OpenTurn => Sorted::Happens(0),
         Call::LostTurn => Sorted::Happens(1),
         Call::Begin => Sorted::Happens(4),
@@ -64,7 +64,7 @@ fn closes(flow: u64) -> Sorted
 }
 
 // What an offer is: an event of this kind with its flow and its number, unless one of them is beyond its limits.
-fn offered(kind: u64, flow: u64, number: u64, bad: bool) -> Sorted
+fn offer(kind: u64, flow: u64, number: u64, bad: bool) -> Sorted
     requires { ⌜ (kind ≤ 5) × (bad ≡ false → number ≤ 4096) ⌝ }
     ensures { λ r. ⌜ r ≡ sortedOf (cond (noSuchFlow flow || bad) beyond (happens (event kind flow number))) ⌝ }
 {

@@ -37,8 +37,8 @@ enum-known-call-5 c = search needs
 bad-deadline-requires : tie.Need-bad-deadline-requires
 bad-deadline-requires c κs = search needs
 
-offered-requires : tie.Need-offered-requires
-offered-requires c κs = (omega arith, λ e. inside _ 4096 (sym (c .bad-deadline .ensures) ∙ e) .1)
+offer-requires : tie.Need-offer-requires
+offer-requires c κs = (omega arith, λ e. inside _ 4096 (sym (c .bad-deadline .ensures) ∙ e) .1)
 
 enum-known-call-6 : tie.Need-enum-known-call-6
 enum-known-call-6 c = search needs
@@ -46,8 +46,8 @@ enum-known-call-6 c = search needs
 bad-length-requires : tie.Need-bad-length-requires
 bad-length-requires c κs = search needs
 
-offered-requires-2 : tie.Need-offered-requires-2
-offered-requires-2 c κs = (omega arith, λ e. le-trans (inside _ 1500 (sym (c .bad-length .ensures) ∙ e) .1) (omega arith))
+offer-requires-2 : tie.Need-offer-requires-2
+offer-requires-2 c κs = (omega arith, λ e. le-trans (inside _ 1500 (sym (c .bad-length .ensures) ∙ e) .1) (omega arith))
 
 enum-told : tie.Need-enum-told
 enum-told c = search needs
@@ -74,10 +74,10 @@ returns-4 : tie.Need-returns-4
 returns-4 c = rw (c .before .before .call4 .given .1) (c .closes2 .ensures)
 
 returns-5 : tie.Need-returns-5
-returns-5 c = rw (c .before .before .before .call5 .given .1, ← c .before .bad-deadline .ensures) (c .offered .ensures)
+returns-5 c = rw (c .before .before .before .call5 .given .1, ← c .before .bad-deadline .ensures) (c .offer .ensures)
 
 returns-6 : tie.Need-returns-6
-returns-6 c = rw (c .before .before .before .call6 .given .1, ← c .before .bad-length .ensures) (c .offered2 .ensures)
+returns-6 c = rw (c .before .before .before .call6 .given .1, ← c .before .bad-length .ensures) (c .offer2 .ensures)
 
 returns-7 : tie.Need-returns-7
 returns-7 c = rw (c .enum-told .given .1)
@@ -105,10 +105,10 @@ sort-spec =
     closes-requires-2
     enum-known-call-5
     bad-deadline-requires
-    offered-requires
+    offer-requires
     enum-known-call-6
     bad-length-requires
-    offered-requires-2
+    offer-requires-2
     enum-told
     enum-told-2
     enum-told-3

@@ -1,9 +1,9 @@
--- `offered` meets its contract: by the flow, then by whether the number is beyond its limits; where it is not, the word fits.
+-- `offer` meets its contract: by the flow, then by whether the number is beyond its limits; where it is not, the word fits.
 use native.Mathlib.Omega.{arith}
 use borrow.Author.Tests.{lt-ltb, le-ltb}
 use borrow.Author.Needs.{needs}
-use Rattle.logging.proofs.sorting.offered.Statement.{statement}
-use Rattle.logging.proofs.sorting.offered.Tie as tie
+use Rattle.logging.proofs.sorting.offer.Statement.{statement}
+use Rattle.logging.proofs.sorting.offer.Tie as tie
 
 returns : tie.Need-returns
 returns c = rw (lt-ltb _ _ (c .if1 .taken))
@@ -29,5 +29,5 @@ cast-t10 c = omega (arith, c .before .before .pre .0, c .before .if1 .left, c .b
 returns-3 : tie.Need-returns-3
 returns-3 c = rw (le-ltb _ _ (c .before .if1 .left), c .if2 .left)
 
-pub offered-spec : {M : Type 1} → statement M
-offered-spec = tie.close (tie.spec returns returns-2 mul-t6 add-t7 mul-t8 add-t9 cast-t10 returns-3)
+pub offer-spec : {M : Type 1} → statement M
+offer-spec = tie.close (tie.spec returns returns-2 mul-t6 add-t7 mul-t8 add-t9 cast-t10 returns-3)
