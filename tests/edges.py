@@ -65,6 +65,7 @@ def urgent_cases():
         ('two cells due now', written_cells(9, 3, 0, 9, 9), 'lost'),
         ('the last slots of all', written_cells(MOST, MOST, 0, MOST, 3), f'offer 0 1, turn, ?offer 0 {MOST}'),
         ('no deadline', written_cells(0, 0, 0, 1, 1), 'offer 0 0, offer 0 1'),
+        ('a deadline that no opening takes', written_cells(0, 5000, 0, 1, 1), 'offer 0 5000'),
         ('a shut flow with cells waiting', written_cells(0, 3, MOST, 1, 1, opened=False), 'close 0, turn, open 0 4, offer 0 4'),
         ('the last number, kept through a closing', UrgentLane(0, {0: 3}, {0: MOST}), 'close 0, open 0 4, offer 0 4'),
     ]

@@ -1,5 +1,5 @@
--- What a client is sold: flows that keep an admitted list lose no cell, and for a list that fails or is too fast there are cells within it that
--- nobody could send in time.
+-- What a client is sold: flows that keep an admitted list, with their full deadlines on all cells, lose none, and for a list that fails or is too fast
+-- there are cells within it that nobody could send in time.
 use mathlib.Core.Path.{_≡_}
 use mathlib.Core.Logic.{_≢_, _↔_}
 use mathlib.Core.List.{List, _++_, map}

@@ -1,9 +1,9 @@
 -- The forms of a log, and the first byte of each.
-use mathlib.Core.Path.{_≡_, refl, sym, _∙_}
+use mathlib.Core.Path.{_≡_, refl, sym}
 use mathlib.Core.Bool.{Bool, true, false, cond, _||_, false≢true}
 use Prim.Native.Nat.{ℕ, _<_}
 use native.Mathlib.Omega.{arith}
-use borrow.Author.Tests.{eqb-true, ltb-false}
+use borrow.Author.Tests.{eqb-true, eqb-false, ne-eqb, ltb-false}
 use lib.Dec.{eqb}
 use Rattle.units.proofs.Limits.{inside}
 use Rattle.log.specs.declared.Form.{Form}
@@ -11,6 +11,7 @@ use Rattle.log.specs.declared.Form.the-variants.{Flow, Own}
 use Rattle.log.specs.Format.{firstByte, badCell}
 use Rattle.log.specs.Faults.{formOf}
 use Rattle.log.specs.Reading.{isFirst}
+use Rattle.log.proofs.Tests.{or-false}
 
 -- a first byte tells its form, and the form the byte
 pub known : (form : Form) → isFirst (firstByte form) ≡ true
@@ -37,19 +38,12 @@ same-form Flow Own e = absurd (omega arith)
 same-form Own Flow e = absurd (omega arith)
 same-form Own Own e = refl
 
--- a byte that tells no form is no form's
-pub not-first : (first : ℕ) → isFirst first ≡ false → (form : Form) → firstByte form ≡ first → ⊥
-not-first first e form f = false≢true (sym e ∙ told form first f)
-  where
-    told : (form : Form) (first : ℕ) → firstByte form ≡ first → isFirst first ≡ true
-    told form first f = rw (← f) (known form)
+-- a byte that tells no form is neither 1 nor 2
+pub not-first : (first : ℕ) → isFirst first ≡ false → (first ≡ 1 → ⊥) × (first ≡ 2 → ⊥)
+not-first first e = let h = or-false (eqb first 1) (eqb first 2) e in (eqb-false first 1 (h .0), eqb-false first 2 (h .1))
 
-pub no-first : (first : ℕ) → ((form : Form) → firstByte form ≡ first → ⊥) → isFirst first ≡ false
-no-first first h = go (isFirst first) refl
-  where
-    go : (t : Bool) → isFirst first ≡ t → t ≡ false
-    go true e = absurd (h (formOf first) (first-back first e))
-    go false e = refl
+pub no-first : (first : ℕ) → (first ≡ 1 → ⊥) → (first ≡ 2 → ⊥) → isFirst first ≡ false
+no-first first one two = rw (ne-eqb first 1 one, ne-eqb first 2 two)
 
 -- it is a byte
 pub first-small : (form : Form) → firstByte form < 256

@@ -87,7 +87,7 @@ module _ (s : List ℕ) where
   pub parts-told : All (Told s) (parts s)
   parts-told =
       all-append (Told s) (tableParts s) (bodyParts s) (
-        (cut 1 (omega arith), (λ h b. (refl, omega arith, not-first (byteAt s 0) (not-true (isFirst (byteAt s 0)) b)))),
+        (cut 1 (omega arith), (λ h b. let n = not-first (byteAt s 0) (not-true (isFirst (byteAt s 0)) b) in (refl, omega arith, n .0, n .1))),
         (
           (cut 5 (omega arith), (λ h b. (h, inl (refl, wrong (fourAt s 1) urgentStart b)))),
           (
@@ -146,7 +146,7 @@ module _ (s : List ℕ) (place : ℕ) where
   HitHere = Some (Hit (length s) place) (parts s)
 
   first-hit : FaultAt s FirstByte place → HitHere
-  first-hit h = inl (sym (h .0), omega (arith, h .1), rw (no-first (byteAt s 0) (h .2)))
+  first-hit h = inl (sym (h .0), omega (arith, h .1), rw (no-first (byteAt s 0) (h .2) (h .3)))
 
   field-hit : FaultAt s TableField place → HitHere
   field-hit h = go (h .1)

@@ -10,7 +10,7 @@ use Rattle.log.specs.declared.Fault.{Fault}
 use Rattle.log.specs.declared.Fault.the-variants.{FirstByte, TableField, BadRecord, EndsEarly, ByteTooMany}
 use Rattle.log.specs.declared.Form.{Form}
 use Rattle.log.specs.declared.Form.the-variants.{Flow, Own}
-use Rattle.log.specs.Format.{firstByte, badOpening, badEvent, mostDeadline, mostWeight, mostBytes}
+use Rattle.log.specs.Format.{badOpening, badEvent, mostDeadline, mostWeight, mostBytes}
 
 -- ---- what stands at a place, the lowest byte first; past the end every byte is 0
 abbrev pub byteAt : List ℕ → ℕ → ℕ
@@ -101,8 +101,8 @@ WrongEvent s place =
 
 -- ---- the five sentences
 abbrev pub FaultAt : List ℕ → Fault → ℕ → Type 0
--- 20: a first byte that is no form's
-FaultAt s FirstByte place = (place ≡ 0) × (0 < length s) × ((form : Form) → firstByte form ≡ byteAt s 0 → ⊥)
+-- 20: a first byte that is neither 1 nor 2
+FaultAt s FirstByte place = (place ≡ 0) × (0 < length s) × (byteAt s 0 ≡ 1 → ⊥) × (byteAt s 0 ≡ 2 → ⊥)
 -- 21: a whole table field that is wrong, at its start
 FaultAt s TableField place = (place + 4 ≤ length s) × WrongField s place
 -- 22: a record that is all there and not well formed, where it starts

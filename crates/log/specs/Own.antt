@@ -10,13 +10,13 @@ use Rattle.log.specs.declared.Form.the-variants.{Flow, Own}
 use Rattle.log.specs.Format.{Opening, Event, Log, GoodLog}
 
 -- the deadline with which a flow was opened; 1 for a flow that was not, whose cells are refused whatever their deadline
-unfoldable pub deadlineIn : List Opening → ℕ → ℕ
-deadlineIn [] flow = 1
-deadlineIn (o ∷ os) flow = cond (eqb (o .flow) flow) (o .number) (deadlineIn os flow)
+unfoldable pub openingDeadline : List Opening → ℕ → ℕ
+openingDeadline [] flow = 1
+openingDeadline (o ∷ os) flow = cond (eqb (o .flow) flow) (o .number) (openingDeadline os flow)
 
 -- the number of an event, given the form and the urgent openings of its log: a cell's is its own deadline
 abbrev pub ownNumber : Form → List Opening → Event → ℕ
-ownNumber Flow urgent e = cond (eqb (e .kind) 2) (deadlineIn urgent (e .flow)) (e .number)
+ownNumber Flow urgent e = cond (eqb (e .kind) 2) (openingDeadline urgent (e .flow)) (e .number)
 ownNumber Own urgent e = e .number
 
 abbrev pub ownEvent : Form → List Opening → Event → Event

@@ -1,30 +1,23 @@
 -- Of bytes that were read as a log, the events by index with their cells' own deadlines are the log's.
 use mathlib.Core.Path.{_≡_, sym, _∙_, ap, subst}
-use mathlib.Core.Bool.{false}
-use mathlib.Core.List.{List, [], _∷_}
-use Prim.Native.Nat.{ℕ, zero, suc, _<_}
-use native.Mathlib.Omega.{arith}
+use mathlib.Core.List.{List}
+use Prim.Native.Nat.{ℕ, _<_}
 use lib.ListN.{length, getD}
 use Rattle.log.specs.declared.Form.{Form}
 use Rattle.log.specs.declared.Found.the-variants.{Word}
-use Rattle.log.specs.Format.{Opening, Event, Log, GoodLog, GoodEvents, badEvent}
+use Rattle.log.specs.Format.{Opening, Event, Log, GoodLog, GoodEvents}
 use Rattle.log.specs.Words.{eventOf, eventWord}
 use Rattle.log.specs.Own.{ownEvent}
 use Rattle.log.specs.Reading.{Good, openingsAt, logAt, contentsOf, readOf, verdictOf}
 use Rattle.log.proofs.Encoded.{event-bytes}
 use Rattle.log.proofs.Words.{words-back}
 use Rattle.log.proofs.Held.{held}
+use Rattle.log.proofs.Own.{own-at, good-at}
 use Rattle.log_records.proofs.Records.{records-found}
 use Rattle.log_cells.specs.Own.{ownOf}
 use Rattle.log_cells.specs.Laws.{OwnFound}
 
--- an event of a good log is well formed
-good-at : (form : Form) (es : List Event) (k : ℕ) (d : Event) → GoodEvents form es → k < length es → badEvent form (getD es k d .kind) (getD es k d .flow) (getD es k d .number) ≡ false
-good-at form [] k d g l = absurd (omega arith)
-good-at form (e ∷ es) zero d g l = g .0
-good-at form (e ∷ es) (suc k) d g l = good-at form es k d (g .1) (omega arith)
-
--- so it is had back from its number
+-- an event of a good log is well formed, so that it is had back from its number
 back-at : (form : Form) (es : List Event) (k : ℕ) (d : Event) → GoodEvents form es → k < length es → eventOf (eventWord (getD es k d)) ≡ getD es k d
 back-at form es k d g l =
     let e = getD es k d in
@@ -43,6 +36,7 @@ own-found s log reads =
       event = λ k d l.
           ap own (records .events k d l)
           ∙ ap (λ (e : Event). Word (eventWord (ownEvent (log .form) (openingsAt s 25 (length (log .urgent))) e))) (back-at (log .form) (log .events) k d (good .events) l)
-          ∙ ap (λ (os : List Opening). Word (eventWord (ownEvent (log .form) os (getD (log .events) k d)))) openings;
+          ∙ ap (λ (os : List Opening). Word (eventWord (ownEvent (log .form) os (getD (log .events) k d)))) openings
+          ∙ ap (λ (e : Event). Word (eventWord e)) (sym (own-at log k d l));
       past = λ k l. ap own (records .events-past k l);
     }

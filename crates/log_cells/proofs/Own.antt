@@ -13,7 +13,7 @@ use Rattle.log.specs.declared.Found.the-variants.{Word, Nothing}
 use Rattle.log.specs.Format.{Opening}
 use Rattle.log.specs.Words.{eventWord}
 use Rattle.log.specs.Faults.{byteAt, twoAt}
-use Rattle.log.specs.Own.{deadlineIn}
+use Rattle.log.specs.Own.{openingDeadline}
 use Rattle.log.specs.Reading.{openingsAt, eventAt}
 use Rattle.log.proofs.Words.{words-back}
 use Rattle.log_records.specs.Found.{eventIn}
@@ -21,18 +21,18 @@ use Rattle.log_cells.specs.Own.{ownWord}
 
 -- ---- the opening at a place is the flow's, or one of those after it is, or none is
 module _ (s : List ℕ) (flow at : ℕ) where
-  pub opened-here : (left : ℕ) → 0 < left → byteAt s at ≡ flow → deadlineIn (openingsAt s at left) flow ≡ twoAt s (at + 1)
-  unfolding openingsAt deadlineIn
+  pub opened-here : (left : ℕ) → 0 < left → byteAt s at ≡ flow → openingDeadline (openingsAt s at left) flow ≡ twoAt s (at + 1)
+  unfolding openingsAt openingDeadline
   opened-here zero l e = absurd (omega arith)
   opened-here (suc left) l e = rw (eq-eqb (byteAt s at) flow e)
 
-  pub opened-later : (left rest : ℕ) → left ≡ rest + 1 → (byteAt s at ≡ flow → ⊥) → deadlineIn (openingsAt s (at + 3) rest) flow ≡ deadlineIn (openingsAt s at left) flow
-  unfolding openingsAt deadlineIn
+  pub opened-later : (left rest : ℕ) → left ≡ rest + 1 → (byteAt s at ≡ flow → ⊥) → openingDeadline (openingsAt s (at + 3) rest) flow ≡ openingDeadline (openingsAt s at left) flow
+  unfolding openingsAt openingDeadline
   opened-later zero rest l e = absurd (omega arith)
   opened-later (suc left) rest l e = let q : rest ≡ left = omega arith in rw (q, ne-eqb (byteAt s at) flow e)
 
-  pub not-opened : (left : ℕ) → left ≤ 0 → deadlineIn (openingsAt s at left) flow ≡ 1
-  unfolding openingsAt deadlineIn
+  pub not-opened : (left : ℕ) → left ≤ 0 → openingDeadline (openingsAt s at left) flow ≡ 1
+  unfolding openingsAt openingDeadline
   not-opened zero l = refl
   not-opened (suc left) l = absurd (omega arith)
 
@@ -42,7 +42,7 @@ module _ (urgent : List Opening) (word : ℕ) where
   no-cell e Flow = rw (ne-eqb (word % 256) 2 e) (sym (words-back .event word))
   no-cell e Own = sym (words-back .event word)
 
-  pub cell : word % 256 ≡ 2 → (deadline : ℕ) → deadline ≡ deadlineIn urgent (word / 256 % 256) → word % 65536 + 65536 * deadline ≡ ownWord Flow urgent word
+  pub cell : word % 256 ≡ 2 → (deadline : ℕ) → deadline ≡ openingDeadline urgent (word / 256 % 256) → word % 65536 + 65536 * deadline ≡ ownWord Flow urgent word
   cell e deadline d =
       rw (eq-eqb (word % 256) 2 e, ← d)
       (let half : word % 256 + 256 * (word / 256 % 256) ≡ word % 65536 = omega arith in

@@ -2,7 +2,7 @@
 ghost use mathlib.Core.Path.{_≡_};
 ghost use Prim.Native.Nat.{_+_, _*_, _≤_, _<_};
 ghost use lib.ListN.{length};
-ghost use Rattle.log.specs.Own.{deadlineIn};
+ghost use Rattle.log.specs.Own.{openingDeadline};
 ghost use Rattle.log.specs.Reading.{openingsAt};
 ghost use Rattle.log_cells.specs.Own.{ownWord, ownFound};
 use log::Contents;
@@ -42,7 +42,7 @@ fn own_word(log: &[u8], form: Form, openings: usize, word: u32) -> u32
 // The deadline with which a flow was opened, by the first of so many openings that is its own; 1 where none is.
 fn deadline_of(log: &[u8], openings: usize, flow: u64) -> u64
     requires { ⌜ 25 + 3 * openings ≤ length (now log) ⌝ }
-    ensures { λ r. ⌜ r ≡ deadlineIn (openingsAt (now (log .entry)) 25 openings) flow ⌝ }
+    ensures { λ r. ⌜ r ≡ openingDeadline (openingsAt (now (log .entry)) 25 openings) flow ⌝ }
     ensures { λ r. ⌜ r < 65536 ⌝ }
 {
     let mut at = URGENT;

@@ -1,13 +1,13 @@
 -- L7-flow: while a log's events are gone through, no flow is opened or closed. So each open flow has the deadline of its opening in the log, and
 -- a cell of any other flow is refused, whatever its deadline.
-use mathlib.Core.Path.{_≡_, refl, sym, _∙_, ap}
+use mathlib.Core.Path.{_≡_, refl, sym, _∙_, ap, subst}
 use mathlib.Core.Bool.{Bool, true, false, cond, not, _||_, true≢false}
 use mathlib.Core.List.{List, [], _∷_, map}
-use Prim.Native.Nat.{ℕ, zero, suc, _+_, _≤_}
+use Prim.Native.Nat.{ℕ, zero, suc, _+_, _≤_, _<_}
 use native.Mathlib.Omega.{arith}
 use borrow.Author.Tests.{eq-eqb, ne-eqb, eqb-true, ltb-false}
 use lib.Dec.{eqb, ltb}
-use lib.ListN.{getD, take, List·getD-map}
+use lib.ListN.{length, getD, take, List·getD-map}
 use Rattle.units.specs.Limits.{noSuchFlow, badDeadline, badLength}
 use Rattle.places.specs.Marks.{openIn}
 use Rattle.urgent.specs.declared.Flow.{Flow as UrgentFlow}
@@ -21,22 +21,23 @@ use Rattle.station.specs.declared.Reply.the-variants.{Urgent, Fair}
 use Rattle.station.specs.declared.Call.{Call}
 use Rattle.station.specs.declared.Call.the-variants.{OfferCell, OfferPacket, OpenTurn, LostTurn, Begin, End}
 use Rattle.station.specs.Calls.{callOf, byUrgent}
-use Rattle.promises_urgent.specs.Cells.{Cells, deadlineIn as inForceNow}
+use Rattle.promises_urgent.specs.Cells.{Cells, deadlineIn}
 use Rattle.promises_urgent.specs.Notes.{noteOffer, noteTurn}
 use Rattle.promises.specs.Run.{Run, noteCells, run, runFrom, fresh}
 use Rattle.promises.proofs.Run.{good-run}
 use Rattle.promises.proofs.Promises.{promises}
+use Rattle.log.specs.declared.Form.{Form}
 use Rattle.log.specs.declared.Form.the-variants.{Flow, Own}
-use Rattle.log.specs.Format.{Opening, Event, Log, GoodLog, GoodOpenings, badEvent, mostDeadline}
-use Rattle.log.specs.Own.{deadlineIn, ownEvent, ownLog}
-use Rattle.log.proofs.Own.{own-log}
+use Rattle.log.specs.Format.{Opening, Event, Log, GoodLog, GoodOpenings, GoodEvents, badEvent, mostDeadline}
+use Rattle.log.specs.Own.{openingDeadline, ownEvent, ownLog}
+use Rattle.log.proofs.Own.{own-log, own-at, good-at}
 use Rattle.log.proofs.Tests.{or-false}
 use Rattle.logging.specs.Sorts.{sortOf, happens}
 use Rattle.logging.specs.Logging.{Opened as Openings, nothingOpened, listed, logWith}
 use Rattle.logging.specs.Replay.{callIn, openingsIn, callsOf}
 use Rattle.logging.proofs.Sorts.{event-only, event-good}
 use Rattle.logging.proofs.Halves.{eventsIn, openedAfter, log-is}
-use Rattle.promises_log.specs.Logged.{flowEvent, callsBefore, FlowMeant, FlowLogged}
+use Rattle.promises_log.specs.Logged.{flowEvent, callsBefore, EventMeant, FlowLogged}
 use Rattle.promises_log.proofs.Lanes.{urgentWith, urgentFlow, stationWith, fresh-is}
 use Rattle.promises_log.proofs.Events.{stationFrom, run-station}
 use Rattle.promises_log.proofs.Again.{again}
@@ -78,14 +79,14 @@ events-marks r [] = refl
 events-marks r (e ∷ es) = events-marks _ es ∙ event-marks (r .cells) e (callOf (r .station) (callIn e) .reply)
 
 -- ---- a flow that was opened is listed with its number
-listed-number : (start : ℕ) (ns : List ℕ) (i flow : ℕ) → flow ≡ start + i → eqb (getD ns i 0) 0 ≡ false → deadlineIn (listed start ns) flow ≡ getD ns i 0
-unfolding listed deadlineIn
+listed-number : (start : ℕ) (ns : List ℕ) (i flow : ℕ) → flow ≡ start + i → eqb (getD ns i 0) 0 ≡ false → openingDeadline (listed start ns) flow ≡ getD ns i 0
+unfolding listed openingDeadline
 listed-number start [] i flow f e = absurd (true≢false e)
 listed-number start (n ∷ ns) zero flow f e = rw (e, eq-eqb start flow (omega arith))
 listed-number start (n ∷ ns) (suc i) flow f e = go (eqb n 0) (listed-number (start + 1) ns i flow (omega arith) e)
   where
-    go : (t : Bool) → deadlineIn (listed (start + 1) ns) flow ≡ getD ns i 0
-        → deadlineIn (cond t (listed (start + 1) ns) (record { flow = start; number = n } ∷ listed (start + 1) ns)) flow ≡ getD ns i 0
+    go : (t : Bool) → openingDeadline (listed (start + 1) ns) flow ≡ getD ns i 0
+        → openingDeadline (cond t (listed (start + 1) ns) (record { flow = start; number = n } ∷ listed (start + 1) ns)) flow ≡ getD ns i 0
     go true again = again
     go false again = rw (ne-eqb start flow (λ q. omega arith)) again
 
@@ -119,12 +120,12 @@ module _ (log : Log) (g : GoodLog log) where
     unfolding urgentWith
     record-so = ap (λ (s : Station). flowAt (s .urgent) flow) opened-so ∙ List·getD-map urgentFlow (o .deadlines) flow 0
 
-    told : openIn (run (openingsIn log) .cells .marks) flow ≡ true → deadlineIn (log .urgent) flow ≡ inForceNow (run (openingsIn log) .cells) flow
+    told : openIn (run (openingsIn log) .cells .marks) flow ≡ true → openingDeadline (log .urgent) flow ≡ deadlineIn (run (openingsIn log) .cells) flow
     told e =
         let kept = good-run (openingsIn log) .kept in
         let mark : not (eqb (getD (o .deadlines) flow 0) 0) ≡ true =
         sym (ap (λ (x : UrgentFlow). x .opened) record-so) ∙ kept .openFlows flow (omega arith) ∙ e in
-        ap (λ (os : List Opening). deadlineIn os flow) listed-so
+        ap (λ (os : List Opening). openingDeadline os flow) listed-so
         ∙ listed-number 0 (o .deadlines) flow flow (omega arith) (opened-number (eqb (getD (o .deadlines) flow 0) 0) mark)
         ∙ sym (ap (λ (x : UrgentFlow). x .deadline) record-so)
         ∙ kept .deadlines flow (omega arith)
@@ -133,19 +134,49 @@ module _ (log : Log) (g : GoodLog log) where
         opened-number true q = absurd (true≢false (sym q))
         opened-number false q = refl
 
-    meant-so : FlowMeant log k flow
-    unfolding callOf
-    meant-so =
-        record {
-          opened = λ e. told (rw marks-so at e) ∙ rw marks-so;
-          shut = λ e deadline.
-              let kept = good-run (callsBefore log k) .kept in
-              let u = run (callsBefore log k) .station .urgent in
-              let no : not (flowAt u flow .opened) ≡ true = rw (kept .openFlows flow (omega arith), e) in
-              ap (byUrgent (run (callsBefore log k) .station)) (sym (offer-2 u flow deadline l no) ∙ offer-2 u flow 1 l no);
-        }
+    opened-deadline : openIn (run (callsBefore log k) .cells .marks) flow ≡ true → openingDeadline (log .urgent) flow ≡ deadlineIn (run (callsBefore log k) .cells) flow
+    opened-deadline e = told (rw marks-so at e) ∙ rw marks-so
 
--- ---- the events of a log of form Flow
+    shut-alike : openIn (run (callsBefore log k) .cells .marks) flow ≡ false → (one other : ℕ)
+        → callOf (run (callsBefore log k) .station) (OfferCell flow one) ≡ callOf (run (callsBefore log k) .station) (OfferCell flow other)
+    unfolding callOf
+    shut-alike e one other =
+        let u = run (callsBefore log k) .station .urgent in
+        let no : not (flowAt u flow .opened) ≡ true = rw (good-run (callsBefore log k) .kept .openFlows flow (omega arith), e) in
+        ap (byUrgent (run (callsBefore log k) .station)) (sym (offer-2 u flow one l no) ∙ offer-2 u flow other l no)
+
+-- ---- an event of a good log of form Flow
+module _ (log : Log) (g : GoodLog log) (f : log .form ≡ Flow) (k : ℕ) (d : Event) (l : k < length (log .events)) where
+  abbrev e : Event
+  e = getD (log .events) k d
+
+  abbrev own : Event
+  own = getD (ownLog log .events) k d
+
+  own-is : own ≡ ownEvent Flow (log .urgent) e
+  own-is = own-at log k d l ∙ ap (λ (form : Form). ownEvent form (log .urgent) e) f
+
+  module _ (two : e .kind ≡ 2) where
+    small : e .flow ≤ 15
+    small =
+        let b = good-at Flow (log .events) k d (subst (λ (form : Form). GoodEvents form (log .events)) f (g .events)) l in
+        let c : (noSuchFlow (e .flow) || ltb 0 (e .number)) ≡ false = rw two at b in
+        ltb-false 15 (e .flow) (or-false (noSuchFlow (e .flow)) (ltb 0 (e .number)) c .0)
+
+    call-so : callIn own ≡ OfferCell (e .flow) (openingDeadline (log .urgent) (e .flow))
+    call-so = ap callIn own-is ∙ rw two
+
+  meant-so : EventMeant log k e own
+  meant-so =
+      record {
+        cell-open = λ two q. call-so two ∙ ap (OfferCell (e .flow)) (opened-deadline log g k (e .flow) (small two) q);
+        cell-shut = λ two q deadline.
+            ap (callOf (run (callsBefore log k) .station)) (call-so two)
+            ∙ shut-alike log g k (e .flow) (small two) q (openingDeadline (log .urgent) (e .flow)) deadline;
+        other = λ n. own-is ∙ rw (ne-eqb (e .kind) 2 n);
+      }
+
+-- ---- which events a log of form Flow has
 module _ (urgent : List Opening) (e : Event) (g : GoodOpenings mostDeadline 0 urgent) (b : badEvent Flow (e .kind) (e .flow) (e .number) ≡ false) where
   own-good : badEvent Own (e .kind) (e .flow) (ownEvent Flow urgent e .number) ≡ false
   own-good = own-log (record { form = Flow; urgent = urgent; fair = []; events = e ∷ [] }) .good (record { urgent = g; fair = tt; events = (b, tt) }) .events .0
@@ -153,7 +184,7 @@ module _ (urgent : List Opening) (e : Event) (g : GoodOpenings mostDeadline 0 ur
   told-back : flowEvent (ownEvent Flow urgent e) ≡ e
   told-back = ap (λ (n : ℕ). record { kind = e .kind; flow = e .flow; number = n }) (go (eqb (e .kind) 2) refl)
     where
-      go : (t : Bool) → eqb (e .kind) 2 ≡ t → cond t 0 (cond t (deadlineIn urgent (e .flow)) (e .number)) ≡ e .number
+      go : (t : Bool) → eqb (e .kind) 2 ≡ t → cond t 0 (cond t (openingDeadline urgent (e .flow)) (e .number)) ≡ e .number
       go true p =
           let two : e .kind ≡ 2 = eqb-true (e .kind) 2 p in
           let c : (noSuchFlow (e .flow) || ltb 0 (e .number)) ≡ false = rw two at b in
@@ -176,5 +207,5 @@ flow-logged =
     record {
       event-good = λ urgent e g b. (event-good (ownEvent Flow urgent e) (own-good urgent e g b), told-back urgent e g b);
       event-only = flow-only;
-      meant = λ log g k flow l. meant-so log g k flow l;
+      meant = λ log g f k d l. meant-so log g f k d l;
     }

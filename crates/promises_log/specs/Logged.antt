@@ -2,9 +2,9 @@
 use mathlib.Core.Path.{_≡_}
 use mathlib.Core.Bool.{true, false, cond}
 use mathlib.Core.List.{List, _++_, map}
-use Prim.Native.Nat.{ℕ, _≤_}
+use Prim.Native.Nat.{ℕ, _<_}
 use lib.Dec.{eqb}
-use lib.ListN.{take}
+use lib.ListN.{length, getD, take}
 use Rattle.places.specs.Marks.{openIn}
 use Rattle.station.specs.declared.Call.{Call}
 use Rattle.station.specs.declared.Call.the-variants.{OfferCell}
@@ -13,11 +13,11 @@ use Rattle.station.specs.declared.Reply.the-variants.{Urgent, Fair}
 use Rattle.station.specs.Calls.{freshStation, callOf}
 use Rattle.urgent.specs.declared.Answer.the-variants.{Opened}
 use Rattle.fair.specs.declared.Answer.the-variants.{Opened as FairOpened}
-use Rattle.promises_urgent.specs.Cells.{deadlineIn as inForceNow}
+use Rattle.promises_urgent.specs.Cells.{deadlineIn}
 use Rattle.promises.specs.Run.{run, replies}
 use Rattle.log.specs.declared.Form.the-variants.{Flow, Own}
 use Rattle.log.specs.Format.{Opening, Event, Log, GoodLog, GoodOpenings, badEvent, mostDeadline}
-use Rattle.log.specs.Own.{deadlineIn, ownEvent, ownLog}
+use Rattle.log.specs.Own.{ownEvent, ownLog}
 use Rattle.logging.specs.Sorts.{sortOf, happens}
 use Rattle.logging.specs.Logging.{logOf}
 use Rattle.logging.specs.Replay.{callIn, openingsIn, callsOf}
@@ -55,12 +55,18 @@ flowEvent e = record { kind = e .kind; flow = e .flow; number = cond (eqb (e .ki
 abbrev pub callsBefore : Log → ℕ → List Call
 callsBefore log k = openingsIn log ++ map callIn (take k (ownLog log .events))
 
--- a flow while a log is gone through again: open, its deadline in force is that of its opening in the log; not open, no deadline matters
-pub record FlowMeant (log : Log) (k flow : ℕ) : Type 0 where
-  pub opened : openIn (run (callsBefore log k) .cells .marks) flow ≡ true → deadlineIn (log .urgent) flow ≡ inForceNow (run (callsBefore log k) .cells) flow
-  pub shut :
-      openIn (run (callsBefore log k) .cells .marks) flow ≡ false
-      → (deadline : ℕ) → callOf (run (callsBefore log k) .station) (OfferCell flow deadline) ≡ callOf (run (callsBefore log k) .station) (OfferCell flow 1)
+-- what event k of a log, e, means when the log is gone through again: it is gone through as own
+pub record EventMeant (log : Log) (k : ℕ) (e own : Event) : Type 0 where
+  -- a cell of an open flow is offered with the deadline that the flow has then
+  pub cell-open :
+      e .kind ≡ 2 → openIn (run (callsBefore log k) .cells .marks) (e .flow) ≡ true
+      → callIn own ≡ OfferCell (e .flow) (deadlineIn (run (callsBefore log k) .cells) (e .flow))
+  -- a cell of any other flow is answered as with whatever deadline
+  pub cell-shut :
+      e .kind ≡ 2 → openIn (run (callsBefore log k) .cells .marks) (e .flow) ≡ false
+      → (deadline : ℕ) → callOf (run (callsBefore log k) .station) (callIn own) ≡ callOf (run (callsBefore log k) .station) (OfferCell (e .flow) deadline)
+  -- and any other event is itself
+  pub other : (e .kind ≡ 2 → ⊥) → own ≡ e
 
 -- L7-flow: a log of form Flow, whose cells are of their flows' own deadlines
 pub record FlowLogged : Type 0 where
@@ -69,5 +75,7 @@ pub record FlowLogged : Type 0 where
       (urgent : List Opening) (e : Event) → GoodOpenings mostDeadline 0 urgent → badEvent Flow (e .kind) (e .flow) (e .number) ≡ false
       → (sortOf (callIn (ownEvent Flow urgent e)) ≡ happens (ownEvent Flow urgent e)) × (flowEvent (ownEvent Flow urgent e) ≡ e)
   pub event-only : (call : Call) (e : Event) → sortOf call ≡ happens e → badEvent Flow (e .kind) (e .flow) (flowEvent e .number) ≡ false
-  -- what its cells are offered with is the flow's own deadline, before whichever event
-  pub meant : (log : Log) → GoodLog log → (k flow : ℕ) → flow ≤ 15 → FlowMeant log k flow
+  -- gone through again, its cells are offered with their flows' own deadlines
+  pub meant :
+      (log : Log) → GoodLog log → log .form ≡ Flow → (k : ℕ) (d : Event) → k < length (log .events)
+      → EventMeant log k (getD (log .events) k d) (getD (ownLog log .events) k d)

@@ -5,9 +5,9 @@ use mathlib.Core.List.{List, [], _∷_}
 use Prim.Native.Nat.{ℕ}
 use Rattle.station.specs.declared.Call.{Call}
 use Rattle.station.specs.declared.Call.the-variants.{OpenUrgent, OpenFair, CloseUrgent, CloseFair, OfferCell, OfferPacket, OpenTurn, LostTurn, Begin, End}
-use Rattle.log.specs.declared.Form.the-variants.{Own}
+use Rattle.log.specs.declared.Form.the-variants.{Flow, Own}
 use Rattle.log.specs.Format.{Log, bytesOf}
-use Rattle.log.specs.Worked.{opening, smallLog}
+use Rattle.log.specs.Worked.{opening}
 use Rattle.logging.specs.Sorts.{event}
 use Rattle.logging.specs.Logging.{logOf}
 use Rattle.logging.specs.Replay.{callsOf}
@@ -67,7 +67,7 @@ pub record Worked : Type 0 where
   pub refused :
       logOf (OpenUrgent 3 4 ∷ OfferCell 2 1 ∷ OfferCell 3 5 ∷ CloseUrgent 16 ∷ LostTurn ∷ CloseFair 0 ∷ LostTurn ∷ [])
       ≡ record { form = Own; urgent = opening 3 4 ∷ []; fair = []; events = event 2 2 1 ∷ event 2 3 5 ∷ event 1 0 0 ∷ [] }
-  -- a log of form Flow: a cell is offered with its flow's deadline, and one of a flow that is not opened with 1
+  -- a log of form Flow: cells of two flows are offered with their own flow's deadline, and one of a flow that is not opened with 1
   pub flow :
-      callsOf (smallLog (event 2 9 0 ∷ []))
-      ≡ OpenUrgent 2 4096 ∷ OpenFair 15 7 ∷ OfferCell 2 4096 ∷ OfferPacket 15 1500 ∷ OpenTurn ∷ Begin ∷ OfferCell 9 1 ∷ []
+      callsOf (record { form = Flow; urgent = opening 2 9 ∷ opening 5 3 ∷ []; fair = []; events = event 2 5 0 ∷ event 2 2 0 ∷ event 2 9 0 ∷ event 0 0 0 ∷ [] })
+      ≡ OpenUrgent 2 9 ∷ OpenUrgent 5 3 ∷ OfferCell 5 3 ∷ OfferCell 2 9 ∷ OfferCell 9 1 ∷ OpenTurn ∷ []

@@ -218,6 +218,8 @@ fn unreachable_states() {
     offer(end, 0, most);
     case(b"no deadline");
     offer(offer(written(0, 0, 0, 1, 1), 0, 0), 0, 1);
+    case(b"a deadline that no opening takes");
+    offer(written(0, 5000, 0, 1, 1), 0, 5000);
     case(b"a shut flow with cells waiting");
     let mut shut = written(0, 3, 18446744073709551615, 1, 1);
     shut.flows[0] = Flow {

@@ -4,7 +4,7 @@ use mathlib.Core.Path.{_≡_, refl, sym, _∙_}
 use Prim.Native.Nat.{_+_, _*_, _≤_}
 use native.Mathlib.Omega.{arith}
 use lib.ListN.{length}
-use Rattle.log.specs.Own.{deadlineIn}
+use Rattle.log.specs.Own.{openingDeadline}
 use Rattle.log.specs.Reading.{openingsAt}
 use Rattle.log_cells.proofs.Own.{opened-here, opened-later, not-opened}
 use borrow.Author.Needs.{needs}
@@ -13,7 +13,7 @@ use Rattle.log_cells.proofs.deadline_of.Tie as tie
 
 abbrev Inv-loop : tie.InvT-loop
 Inv-loop log openings flow at₀ left₀ at left =
-    (at + 3 * left ≤ length log) × (deadlineIn (openingsAt log at left) flow ≡ deadlineIn (openingsAt log 25 openings) flow)
+    (at + 3 * left ≤ length log) × (openingDeadline (openingsAt log at left) flow ≡ openingDeadline (openingsAt log 25 openings) flow)
 
 abbrev μ-loop : tie.MeasureT-loop
 μ-loop log openings flow at₀ left₀ at left = left
