@@ -125,7 +125,7 @@ sixteenth =
       opened = rw (held .0) ((λ l. refl), tt);
       keeps = rw (held .1) (burst-keeps 0 (declaration 16 5040 16) ((omega arith, omega arith), (1, refl), (omega arith, omega arith)) 0);
       taken = answers .0;
-      full = answers .1;
+      no-more = answers .1;
     }
 
 pub too-much : TooMuch

@@ -93,7 +93,7 @@ pub record Sixteenth : Type 0 where
   pub opened : Each (OpenedWith 0 16) (run (offered 15) .cells .marks)
   pub keeps : KeepsDeclaration (declaration 16 5040 16) 0 (withOne (offered 15) 0)
   pub taken : refusalIn (replyTo (offered 15) (OfferCell 0 16)) ≡ none
-  pub full : refusalIn (replyTo (offered 16) (OfferCell 0 16)) ≡ some PlacesFull
+  pub no-more : refusalIn (replyTo (offered 16) (OfferCell 0 16)) ≡ some PlacesFull
 
 -- case K fails at 1: two cells arrive in slot 0, and both have to go in slot 0; and the client's list is too fast
 pub record TooMuch : Type 0 where
