@@ -15,18 +15,18 @@ STATIONS = [
     ),
     (
         'a drain leaves virtual time at the last start', 'fair', 'promises_fair', 'kept-end', [
-            ('specs/Calls.antt', 'time = cond (eqb (waiting u) 0) (largestEnded u) (u .time);', 'time = cond (eqb (waiting u) 0) (u .time) (u .time);'),
-            ('src/serving.rt', 'time = largest;', 'time = self.time;'),
-            ('proofs/Calls.antt', 'record { time = largest; largest = largest;', 'record { time = u .time; largest = largest;'),
-            ('proofs/Fair/end/Proof.antt', 'rw (w .1) (end-drained', 'rw (w .2) (end-drained'),
+            ('specs/Calls.antt', '(largestEnded u) (u .time)', '(u .time) (u .time)'),
+            ('src/lib.rt', 'time = largest;', 'time = self.time;'),
+            ('proofs/Calls.antt', 'timeLeft u ≡ largestEnded u', 'timeLeft u ≡ u .time'),
+            ('proofs/Fair/end/Proof.antt', 'rw (w .1, largest) (rw (drained', 'rw (w .2, largest) (rw (drained'),
         ],
     ),
     (
-        'packets are served by their finish tags', 'fair', 'promises_fair', 'not-older', [
-            ('specs/Lane.antt', 'rank = p .start .0;', 'rank = p .finish .0;'),
-            ('src/serving.rt', 'tags::earlier(p.start, b.start)', 'tags::earlier(p.finish, b.finish)'),
-            ('src/serving.rt', 'tags::earlier(b.start, p.start)', 'tags::earlier(b.finish, p.finish)'),
-            ('proofs/serving/goes_before/Proof.antt', '.start .0', '.finish .0'),
+        'packets are served by their finish tags', 'packets', 'promises_fair', 'begins-first', [
+            ('specs/Queue.antt', 'byStart start finish = start', 'byStart start finish = finish'),
+            ('src/choosing.rt', 'tags::earlier(p.start, b.start)', 'tags::earlier(p.finish, b.finish)'),
+            ('src/choosing.rt', 'tags::earlier(b.start, p.start)', 'tags::earlier(b.finish, p.finish)'),
+            ('proofs/choosing/goes_before/Proof.antt', '.start .0', '.finish .0'),
         ],
     ),
     (

@@ -5,6 +5,9 @@ use Rattle.units.specs.Refusals.{firstOf}
 use Rattle.places.specs.Places.{count, firstFree}
 use Rattle.link.specs.Verdicts.{byNumbers}
 use Rattle.urgent.specs.Calls.{openOf as openUrgentOf}
+use Rattle.tags.specs.Tags.{finishOf}
+use Rattle.packets.specs.Quotes.{quoteOf}
+use Rattle.packets.specs.Calls.{openOf as openIn, putOf}
 use Rattle.fair.specs.Calls.{openOf, offerOf}
 use Rattle.station.specs.Calls.{callOf}
 use Rattle.text.specs.Reading.{readOn}
@@ -17,7 +20,7 @@ use Rattle.cases.specs.BadNumbers.{BadNumbers}
 use Rattle.cases.proofs.Worked.{teen}
 
 pub bad-numbers : BadNumbers
-unfolding toldBy bytesOf linesOf answersOf readOn callOf openUrgentOf openOf offerOf firstOf byNumbers count firstFree
+unfolding toldBy bytesOf linesOf answersOf readOn callOf openUrgentOf openOf openIn offerOf putOf quoteOf finishOf firstOf byNumbers count firstFree
 bad-numbers =
     record {
       deadlines = refl;

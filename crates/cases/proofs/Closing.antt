@@ -8,6 +8,9 @@ use Rattle.urgent.specs.Calls.{turnOf}
 use Rattle.urgent.specs.Calls.{openOf as openUrgentOf}
 use Rattle.urgent.specs.Calls.{closeOf as closeUrgentOf}
 use Rattle.urgent.specs.Calls.{offerOf as offerCellOf}
+use Rattle.tags.specs.Tags.{finishOf}
+use Rattle.packets.specs.Quotes.{quoteOf}
+use Rattle.packets.specs.Calls.{openOf as openIn, closeOf as closeIn, putOf, beginBy, endOf as endIn}
 use Rattle.fair.specs.Calls.{openOf, closeOf, offerOf, beginOf, endOf}
 use Rattle.station.specs.Calls.{callOf}
 use Rattle.text.specs.Reading.{readOn}
@@ -20,7 +23,7 @@ use Rattle.cases.specs.Closing.{Closings}
 use Rattle.cases.proofs.Worked.{teen}
 
 pub closings : Closings
-unfolding toldBy bytesOf linesOf answersOf readOn callOf openUrgentOf closeUrgentOf offerCellOf turnOf openOf closeOf offerOf beginOf endOf firstOf count firstFree comesBefore better least
+unfolding toldBy bytesOf linesOf answersOf readOn callOf openUrgentOf closeUrgentOf offerCellOf turnOf openOf openIn closeOf closeIn offerOf putOf quoteOf finishOf beginOf beginBy endOf endIn firstOf count firstFree comesBefore better least
 closings =
     record {
       urgent = refl;

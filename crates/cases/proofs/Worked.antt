@@ -9,6 +9,9 @@ use Rattle.places.specs.Choice.{comesBefore, better, least}
 use Rattle.urgent.specs.Calls.{turnOf}
 use Rattle.urgent.specs.Calls.{openOf as openUrgentOf}
 use Rattle.urgent.specs.Calls.{offerOf as offerCellOf}
+use Rattle.tags.specs.Tags.{finishOf}
+use Rattle.packets.specs.Quotes.{quoteOf}
+use Rattle.packets.specs.Calls.{openOf as openIn, putOf, beginBy, endOf as endIn}
 use Rattle.fair.specs.Calls.{openOf, offerOf, beginOf, endOf}
 use Rattle.station.specs.Calls.{callOf}
 use Rattle.text.specs.Decimal.{decimalOf}
@@ -37,5 +40,5 @@ tag =
     longer 7207200 0 (omega arith) (omega arith) (longer 720720 0 (omega arith) (omega arith) c)
 
 pub worked : Worked
-unfolding bytesOf linesOf answersOf readOn callOf openUrgentOf offerCellOf turnOf openOf offerOf beginOf endOf firstOf count firstFree comesBefore better least
+unfolding bytesOf linesOf answersOf readOn callOf openUrgentOf offerCellOf turnOf openOf openIn offerOf putOf quoteOf finishOf beginOf beginBy endOf endIn firstOf count firstFree comesBefore better least
 worked = rw (decimal-digit 0 (omega arith), decimal-digit 1 (omega arith), decimal-digit 2 (omega arith), decimal-digit 9 (omega arith), tag)

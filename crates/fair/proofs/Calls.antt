@@ -1,168 +1,93 @@
--- Each case of what a call gives, from the tests that lead to it.
-use mathlib.Core.Path.{_≡_, refl, sym, ap, _∙_}
-use mathlib.Core.Bool.{Bool, true, false, not, or-true}
-use mathlib.Core.List.{[], _∷_}
-use Prim.Native.Nat.{ℕ, _+_, _*_, _≤_, _<_}
+-- Each case of what a call gives, by the answer that the queue gave: one that is not the call's own is a refusal, and the lane is as it was;
+-- with the call's own the lane has what the queue gave.
+use mathlib.Core.Path.{_≡_, refl}
+use mathlib.Core.List.{List, [], _∷_}
+use Prim.Native.Nat.{ℕ, _<_}
 use native.Mathlib.Omega.{arith}
-use borrow.Author.Tests.{lt-ltb, le-ltb, le-leb, lt-leb, eq-eqb, ne-eqb}
-use lib.Dec.{eqb}
-use lib.ListN.{length, set}
-use Rattle.units.specs.Limits.{placeCount, tagLimit, badWeight, badLength}
-use Rattle.units.specs.Refusals.{firstOf, unless}
+use borrow.Author.Tests.{eq-eqb, ne-eqb}
+use types.Run.{OneOf, miss}
+use denote.Enum.Declared.{tagOf}
 use Rattle.units.specs.declared.Tag.{Tag}
-use Rattle.units.specs.declared.Refusal.the-variants.{NoSuchFlow, NotOpen, AlreadyOpen, PlacesFull, TagsUsedUp, PacketInService, NothingWaits, NothingInService, FlowInUse, BadWeight, BadLength}
-use Rattle.places.specs.Places.{count, placesOf, firstFree}
-use Rattle.places.specs.Choice.{nothing, at}
-use Rattle.places.proofs.Free.{part-full, part-room}
-use Rattle.places.proofs.Least.{none-held, some-held}
-use Rattle.tags.specs.declared.Packet.{Packet}
-use Rattle.tags.specs.declared.Finish.{Finish}
-use Rattle.tags.specs.declared.Finish.the-variants.{At, Beyond}
-use Rattle.tags.specs.Tags.{freePacket, isHeld, finishOf}
-use Rattle.tags.proofs.Tags.{beyond-told, at-told}
+use Rattle.packets.specs.declared.Flows.{Flows}
+use Rattle.packets.specs.declared.Kept.{Kept}
+use Rattle.packets.specs.declared.Answer.{Answer}
+use Rattle.packets.specs.declared.Answer.the-variants.{Begun}
+use Rattle.packets.specs.Queue.{flowAt, waiting, byStart}
+use Rattle.packets.specs.Quotes.{quoteOf}
+use Rattle.packets.specs.Calls.{openOf as openIn, closeOf as closeIn, beginBy, endOf as endIn}
+use Rattle.packets.proofs.Answer.{the-type}
+use Rattle.packets.proofs.Cases.{open-cases, close-cases, put-cases, begin-cases, end-cases}
 use Rattle.fair.specs.declared.Fair.{Fair}
 use Rattle.fair.specs.declared.Done.{Done}
-use Rattle.fair.specs.declared.Answer.the-variants.{Accepted, Ended}
-use Rattle.fair.specs.Lane.{idle, flowAt, waitingOf, waiting, busyWith, startOf, keyOf, chosen, largestEnded}
-use Rattle.fair.specs.Calls.{refused, opened, openOf, closed, closeOf, offerOf, begun, beginOf, ended, endOf}
+use Rattle.fair.specs.Lane.{largestEnded}
+use Rattle.fair.specs.Calls.{withFlows, byFlows, withQueue, byQueue, openOf, closeOf, stamped, offerOf, begun, beginOf, timeLeft, endOf}
 
-module _ (u : Fair) (flow weight : ℕ) where
-  pub open-1 : 15 < flow → refused u NoSuchFlow ≡ openOf u flow weight
-  unfolding openOf firstOf
-  open-1 h = rw (lt-ltb 15 flow h)
+-- the answer is one of those at these places of the list of answers
+abbrev AnswerIn : List ℕ → Answer → Type 0
+AnswerIn places a = OneOf places (tagOf the-type a)
 
-  module _ (h : flow ≤ 15) where
-    pub open-3 : flowAt u flow .opened ≡ true → refused u AlreadyOpen ≡ openOf u flow weight
-    unfolding openOf firstOf
-    open-3 o = rw (le-ltb 15 flow h, o)
+-- the lane as it was, and the queue's answer
+abbrev handedBack : Fair → Answer → Done
+handedBack u a = record { lane = u; answer = a }
 
-    pub open-13 : flowAt u flow .opened ≡ false → badWeight weight ≡ true → refused u BadWeight ≡ openOf u flow weight
-    unfolding openOf firstOf
-    open-13 o b = rw (le-ltb 15 flow h, o, b)
-
-    pub open-ok : flowAt u flow .opened ≡ false → badWeight weight ≡ false → opened u flow weight ≡ openOf u flow weight
-    unfolding openOf firstOf
-    open-ok o b = rw (le-ltb 15 flow h, o, b)
-
-module _ (u : Fair) (flow : ℕ) where
-  pub close-1 : 15 < flow → refused u NoSuchFlow ≡ closeOf u flow
-  unfolding closeOf firstOf
-  close-1 h = rw (lt-ltb 15 flow h)
-
-  module _ (h : flow ≤ 15) where
-    pub close-2 : not (flowAt u flow .opened) ≡ true → refused u NotOpen ≡ closeOf u flow
-    unfolding closeOf firstOf
-    close-2 o = rw (le-ltb 15 flow h, o)
-
-    module _ (o : not (flowAt u flow .opened) ≡ false) where
-      pub close-waits : 0 < waitingOf u flow → refused u FlowInUse ≡ closeOf u flow
-      unfolding closeOf firstOf
-      close-waits w = rw (le-ltb 15 flow h, o, lt-ltb 0 (waitingOf u flow) w)
-
-      pub close-serves : waitingOf u flow ≤ 0 → busyWith (u .service) flow ≡ true → refused u FlowInUse ≡ closeOf u flow
-      unfolding closeOf firstOf
-      close-serves w s = rw (le-ltb 15 flow h, o, le-ltb 0 (waitingOf u flow) w, s)
-
-      pub close-ok : waitingOf u flow ≤ 0 → busyWith (u .service) flow ≡ false → closed u flow ≡ closeOf u flow
-      unfolding closeOf firstOf
-      close-ok w s = rw (le-ltb 15 flow h, o, le-ltb 0 (waitingOf u flow) w, s)
-
-module _ (u : Fair) (flow bytes : ℕ) where
-  pub offer-1 : 15 < flow → refused u NoSuchFlow ≡ offerOf u flow bytes
-  unfolding offerOf firstOf
-  offer-1 h = rw (lt-ltb 15 flow h)
-
-  module _ (h : flow ≤ 15) where
-    pub offer-2 : not (flowAt u flow .opened) ≡ true → refused u NotOpen ≡ offerOf u flow bytes
-    unfolding offerOf firstOf
-    offer-2 o = rw (le-ltb 15 flow h, o)
-
-    pub offer-15 : not (flowAt u flow .opened) ≡ false → badLength bytes ≡ true → refused u BadLength ≡ offerOf u flow bytes
-    unfolding offerOf firstOf
-    offer-15 o b = rw (le-ltb 15 flow h, o, b)
-
-    -- k is the flow's first free place
-    module _ (o : not (flowAt u flow .opened) ≡ false) (b : badLength bytes ≡ false)
-        (l : length (u .packets) ≡ 256) (k : ℕ) (e : k ≡ firstFree isHeld (placesOf placeCount flow (u .packets))) where
-      full : 16 ≤ k → 16 ≤ count isHeld (placesOf placeCount flow (u .packets))
-      full = part-full isHeld freePacket (u .packets) (flow * 16) 16 (omega arith) k e
-
-      room : k < 16 → count isHeld (placesOf placeCount flow (u .packets)) < 16
-      room = part-room isHeld freePacket (u .packets) (flow * 16) 16 (omega arith) k e
-
-      pub offer-5 : 16 ≤ k → refused u PlacesFull ≡ offerOf u flow bytes
-      unfolding offerOf firstOf
-      offer-5 f = rw (le-ltb 15 flow h, o, b, le-leb 16 (count isHeld (placesOf placeCount flow (u .packets))) (full f))
-
-      module _ (f : k < 16) where
-        pub offer-6-number : tagLimit < flowAt u flow .next → refused u TagsUsedUp ≡ offerOf u flow bytes
-        unfolding offerOf firstOf
-        offer-6-number n =
-            rw (le-ltb 15 flow h, o, b, lt-leb 16 (count isHeld (placesOf placeCount flow (u .packets))) (room f), lt-ltb tagLimit (flowAt u flow .next) n, or-true)
-
-        -- the packet's start tag, and where it would finish
-        module _ (n : flowAt u flow .next ≤ tagLimit) (start : Tag) (s : start ≡ startOf u flow) (ends : Finish) (t : ends ≡ finishOf start bytes (flowAt u flow .weight)) where
-          pub offer-6-finish : ends ≡ Beyond → refused u TagsUsedUp ≡ offerOf u flow bytes
-          unfolding offerOf firstOf
-          offer-6-finish p =
-              rw (le-ltb 15 flow h, o, b, lt-leb 16 (count isHeld (placesOf placeCount flow (u .packets))) (room f), beyond-told (startOf u flow) bytes (flowAt u flow .weight) b ends (rw s at t) p)
-
-          pub offer-ok : (finish : Tag) → ends ≡ At finish
-              → record {
-                lane = record {
-                  time = u .time;
-                  largest = u .largest;
-                  service = u .service;
-                  flows = set (u .flows) flow (record { opened = true; weight = flowAt u flow .weight; next = flowAt u flow .next + 1; finish = finish });
-                  packets = set (u .packets) (flow * 16 + k) (record { held = true; number = flowAt u flow .next; length = bytes; start = start; finish = finish });
-                };
-                answer = Accepted (flowAt u flow .next) start finish;
-              } ≡ offerOf u flow bytes
-          unfolding offerOf firstOf
-          offer-ok finish p =
-              let q = at-told (startOf u flow) bytes (flowAt u flow .weight) b ends (rw s at t) finish p in
-              rw (le-ltb 15 flow h, o, b, lt-leb 16 (count isHeld (placesOf placeCount flow (u .packets))) (room f), q .0, le-ltb tagLimit (flowAt u flow .next) n, ← e, s, q .1)
+-- what a call gives by its answer: another's hands the lane back, and the call's own gives this
+abbrev ByAnswer : Fair → List ℕ → ℕ → Answer → Done → Done → Type 0
+ByAnswer u others own a gives done = (AnswerIn others a → handedBack u a ≡ done) × (AnswerIn (own ∷ []) a → gives ≡ done)
 
 module _ (u : Fair) where
-  -- what begin gives, by its two tests
-  by-tests : Bool → Bool → Done
-  by-tests busy none = unless (refused u) (firstOf ((PacketInService, busy) ∷ (NothingWaits, none) ∷ [])) (begun u (chosen u))
+  pub open-by : (flow weight : ℕ) (d : Flows) → d ≡ openIn (u .queue) flow weight
+      → ByAnswer u (0 ∷ 2 ∷ 3 ∷ 4 ∷ 5 ∷ []) 1 (d .answer) (withFlows u d) (openOf u flow weight)
+  unfolding openOf
+  open-by flow weight d e =
+      rw e
+      (open-cases (u .queue) (λ (d : Flows). ByAnswer u (0 ∷ 2 ∷ 3 ∷ 4 ∷ 5 ∷ []) 1 (d .answer) (withFlows u d) (byFlows u d))
+      (λ r. (λ k. refl, λ k. absurd (miss (1 ∷ []) 0 tt k))) flow weight
+      (λ l o b. (λ k. absurd (miss (0 ∷ 2 ∷ 3 ∷ 4 ∷ 5 ∷ []) 1 tt k), λ k. refl)))
 
-  pub begin-8 : u .service .busy ≡ true → refused u PacketInService ≡ beginOf u
-  unfolding beginOf firstOf by-tests
-  begin-8 o = sym (ap (λ (t : Bool). by-tests t (eqb (waiting u) 0)) o)
+  pub close-by : (flow : ℕ) (d : Flows) → d ≡ closeIn (u .queue) flow
+      → ByAnswer u (0 ∷ 1 ∷ 3 ∷ 4 ∷ 5 ∷ []) 2 (d .answer) (withFlows u d) (closeOf u flow)
+  unfolding closeOf
+  close-by flow d e =
+      rw e
+      (close-cases (u .queue) (λ (d : Flows). ByAnswer u (0 ∷ 1 ∷ 3 ∷ 4 ∷ 5 ∷ []) 2 (d .answer) (withFlows u d) (byFlows u d))
+      (λ r. (λ k. refl, λ k. absurd (miss (2 ∷ []) 0 tt k))) flow
+      (λ l w s. (λ k. absurd (miss (0 ∷ 1 ∷ 3 ∷ 4 ∷ 5 ∷ []) 2 tt k), λ k. refl)))
 
-  module _ (o : u .service .busy ≡ false) where
-    pub begin-9 : chosen u ≡ nothing → refused u NothingWaits ≡ beginOf u
-    unfolding beginOf firstOf by-tests
-    begin-9 e =
-        sym (ap (λ (t : Bool). by-tests t (eqb (waiting u) 0)) o ∙ ap (by-tests false) (eq-eqb (waiting u) 0 (none-held isHeld keyOf freePacket refl (u .packets) e)))
+  pub offer-by : (flow length : ℕ) (d : Kept) → d ≡ stamped u flow length
+      → ByAnswer u (0 ∷ 1 ∷ 2 ∷ 4 ∷ 5 ∷ []) 3 (d .answer) (withQueue (u .time) (u .largest) d) (offerOf u flow length)
+  unfolding offerOf
+  offer-by flow length d e =
+      rw e
+      (put-cases (u .queue)
+      (λ (d : Kept). ByAnswer u (0 ∷ 1 ∷ 2 ∷ 4 ∷ 5 ∷ []) 3 (d .answer) (withQueue (u .time) (u .largest) d) (byQueue u (u .time) (u .largest) d))
+      (λ r. (λ k. refl, λ k. absurd (miss (3 ∷ []) 0 tt k))) flow length (quoteOf (flowAt (u .queue) flow) (u .time) length)
+      (λ l o b w f. (λ k. absurd (miss (0 ∷ 1 ∷ 2 ∷ 4 ∷ 5 ∷ []) 3 tt k), λ k. refl)))
 
-    pub begin-ok : (place : ℕ) (p : Packet) → chosen u ≡ at place p → begun u (at place p) ≡ beginOf u
-    unfolding beginOf firstOf by-tests
-    begin-ok place p e =
-        let w = some-held isHeld keyOf freePacket refl (u .packets) place p e in
-        sym (ap (λ (t : Bool). by-tests t (eqb (waiting u) 0)) o ∙ ap (by-tests false) (ne-eqb (waiting u) 0 (λ z. omega arith)) ∙ ap (begun u) e)
+  pub begin-no : (d : Kept) → d ≡ beginBy byStart (u .queue) → AnswerIn (0 ∷ 1 ∷ 2 ∷ 3 ∷ 5 ∷ []) (d .answer) → handedBack u (d .answer) ≡ beginOf u
+  unfolding beginOf
+  begin-no d e =
+      rw e
+      (begin-cases (u .queue) (λ (d : Kept). AnswerIn (0 ∷ 1 ∷ 2 ∷ 3 ∷ 5 ∷ []) (d .answer) → handedBack u (d .answer) ≡ begun u d) (λ r k. refl) byStart
+      (λ i place p c k. absurd (miss (0 ∷ 1 ∷ 2 ∷ 3 ∷ 5 ∷ []) 4 tt k)))
 
-  pub end-10 : not (u .service .busy) ≡ true → refused u NothingInService ≡ endOf u
-  unfolding endOf firstOf
-  end-10 o = sym (ap (λ (t : Bool). unless (refused u) (firstOf ((NothingInService, t) ∷ [])) (ended u)) o)
+  -- virtual time is the start tag in the answer
+  pub begin-ok : (d : Kept) → d ≡ beginBy byStart (u .queue) → (flow number length : ℕ) (start : Tag) → d .answer ≡ Begun flow number length start
+      → record { lane = withQueue start (u .largest) d .lane; answer = Begun flow number length start } ≡ beginOf u
+  unfolding beginOf
+  begin-ok d e flow number length start o = rw (← e, o)
 
-  module _ (o : not (u .service .busy) ≡ false) (largest : Tag) (g : largest ≡ largestEnded u) where
-    ends : ended u ≡ endOf u
-    unfolding endOf firstOf
-    ends = sym (ap (λ (t : Bool). unless (refused u) (firstOf ((NothingInService, t) ∷ [])) (ended u)) o)
+  pub end-by : (d : Kept) → d ≡ endIn (u .queue)
+      → ByAnswer u (0 ∷ 1 ∷ 2 ∷ 3 ∷ 4 ∷ []) 5 (d .answer) (withQueue (timeLeft u) (largestEnded u) d) (endOf u)
+  unfolding endOf
+  end-by d e =
+      rw e
+      (end-cases (u .queue)
+      (λ (d : Kept). ByAnswer u (0 ∷ 1 ∷ 2 ∷ 3 ∷ 4 ∷ []) 5 (d .answer) (withQueue (timeLeft u) (largestEnded u) d) (byQueue u (timeLeft u) (largestEnded u) d))
+      (λ r. (λ k. refl, λ k. absurd (miss (5 ∷ []) 0 tt k))) (λ b. (λ k. absurd (miss (0 ∷ 1 ∷ 2 ∷ 3 ∷ 4 ∷ []) 5 tt k), λ k. refl)))
 
-    pub end-drained : waiting u ≡ 0
-        → record {
-          lane = record { time = largest; largest = largest; service = idle; flows = u .flows; packets = u .packets };
-          answer = Ended (u .service .flow) (u .service .number) (u .service .length);
-        } ≡ endOf u
-    end-drained w = rw (← ends, eq-eqb (waiting u) 0 w, g)
+  -- virtual time after an end, where none waits and where some do
+  pub drained : waiting (u .queue) ≡ 0 → timeLeft u ≡ largestEnded u
+  drained w = rw (eq-eqb (waiting (u .queue)) 0 w)
 
-    pub end-waits : 0 < waiting u
-        → record {
-          lane = record { time = u .time; largest = largest; service = idle; flows = u .flows; packets = u .packets };
-          answer = Ended (u .service .flow) (u .service .number) (u .service .length);
-        } ≡ endOf u
-    end-waits w = rw (← ends, ne-eqb (waiting u) 0 (λ z. omega arith), g)
+  pub left : 0 < waiting (u .queue) → timeLeft u ≡ u .time
+  left w = rw (ne-eqb (waiting (u .queue)) 0 (λ z. omega arith))

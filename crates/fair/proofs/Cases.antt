@@ -1,58 +1,58 @@
 -- What holds of each way that a call can go holds of what the call gives.
-use mathlib.Core.Path.{_≡_, refl}
+use mathlib.Core.Path.{_≡_}
 use mathlib.Core.Bool.{true, false}
 use Prim.Native.Nat.{ℕ, _≤_, _<_}
-use borrow.Author.Tests.{ltb-false, leb-false, not-false}
-use lib.Dec.{ltb}
+use borrow.Author.Tests.{ltb-false}
 use Rattle.units.specs.Limits.{tagLimit, badWeight, badLength}
 use Rattle.units.specs.declared.Refusal.{Refusal}
-use Rattle.units.specs.declared.Refusal.the-variants.{NothingWaits}
-use Rattle.units.proofs.Refusals.{first-cases}
-use Rattle.places.specs.Choice.{Choice, nothing, at}
-use Rattle.places.proofs.Tests.{neither-told}
+use Rattle.places.specs.Choice.{at}
 use Rattle.tags.specs.declared.Packet.{Packet}
 use Rattle.tags.specs.Tags.{finishAt}
-use Rattle.tags.specs.Grounds.{openingGrounds, closingGrounds, offeringGrounds}
+use Rattle.packets.specs.declared.Flows.{Flows}
+use Rattle.packets.specs.declared.Kept.{Kept}
+use Rattle.packets.specs.Queue.{flowAt, waitingOf, busyWith, byStart, chosenBy}
+use Rattle.packets.specs.Quotes.{quoteOf}
+use Rattle.packets.specs.Calls.{opened, closed, placed, begun as begunIn, ended}
+use Rattle.packets.proofs.Quotes.{fitting, fits-told}
+use Rattle.packets.proofs.Cases.{open-cases as flows-open, close-cases as flows-close, put-cases, begin-cases as queue-begin, end-cases as queue-end}
 use Rattle.fair.specs.declared.Fair.{Fair}
 use Rattle.fair.specs.declared.Done.{Done}
-use Rattle.fair.specs.Lane.{flowAt, waitingOf, busyWith, startOf, chosen, beginGrounds, endGrounds}
-use Rattle.fair.specs.Calls.{refused, opened, openOf, closed, closeOf, accepted, offerOf, begun, beginOf, ended, endOf}
+use Rattle.fair.specs.Lane.{startOf, largestEnded}
+use Rattle.fair.specs.Calls.{refused, withFlows, byFlows, withQueue, byQueue, openOf, closeOf, offerOf, begun, beginOf, timeLeft, endOf}
 
 module _ (u : Fair) (P : Done → Type 0) (no-way : (r : Refusal) → P (refused u r)) where
-  pub open-cases : (flow weight : ℕ) → (flow ≤ 15 → flowAt u flow .opened ≡ false → badWeight weight ≡ false → P (opened u flow weight)) → P (openOf u flow weight)
+  pub open-cases : (flow weight : ℕ)
+      → (flow ≤ 15 → flowAt (u .queue) flow .opened ≡ false → badWeight weight ≡ false → P (withFlows u (opened (u .queue) flow weight)))
+      → P (openOf u flow weight)
   unfolding openOf
-  open-cases flow weight ok =
-      first-cases (refused u) P no-way (openingGrounds flow weight (flowAt u flow)) (opened u flow weight) (λ h. ok (ltb-false 15 flow (h .0)) (h .1 .0) (h .1 .1 .0))
+  open-cases flow weight ok = flows-open (u .queue) (λ (d : Flows). P (byFlows u d)) no-way flow weight ok
 
-  pub close-cases : (flow : ℕ) → (flow ≤ 15 → waitingOf u flow ≤ 0 → busyWith (u .service) flow ≡ false → P (closed u flow)) → P (closeOf u flow)
+  pub close-cases : (flow : ℕ)
+      → (flow ≤ 15 → waitingOf (u .queue) flow ≤ 0 → busyWith (u .queue .service) flow ≡ false → P (withFlows u (closed (u .queue) flow)))
+      → P (closeOf u flow)
   unfolding closeOf
-  close-cases flow ok =
-      first-cases (refused u) P no-way (closingGrounds flow (flowAt u flow) (waitingOf u flow) (busyWith (u .service) flow)) (closed u flow)
-      (λ h.
-      let n = neither-told (ltb 0 (waitingOf u flow)) (busyWith (u .service) flow) (h .1 .1 .0) in
-      ok (ltb-false 15 flow (h .0)) (ltb-false 0 (waitingOf u flow) (n .0)) (n .1))
+  close-cases flow ok = flows-close (u .queue) (λ (d : Flows). P (byFlows u d)) no-way flow ok
 
+  -- an accepted packet has the tags of a quote that fits
   pub offer-cases : (flow length : ℕ)
-      → (flow ≤ 15 → flowAt u flow .opened ≡ true → badLength length ≡ false → waitingOf u flow < 16
-      → finishAt (startOf u flow) length (flowAt u flow .weight) ≤ tagLimit → flowAt u flow .next ≤ tagLimit → P (accepted u flow length))
+      → (flow ≤ 15 → flowAt (u .queue) flow .opened ≡ true → badLength length ≡ false → waitingOf (u .queue) flow < 16
+      → finishAt (startOf u flow) length (flowAt (u .queue) flow .weight) ≤ tagLimit → flowAt (u .queue) flow .next ≤ tagLimit
+      → P (withQueue (u .time) (u .largest) (placed (u .queue) flow length (fitting (flowAt (u .queue) flow) (u .time) length))))
       → P (offerOf u flow length)
   unfolding offerOf
   offer-cases flow length ok =
-      first-cases (refused u) P no-way (offeringGrounds flow (flowAt u flow) (waitingOf u flow) (startOf u flow) length) (accepted u flow length)
-      (λ h.
-      let finish = finishAt (startOf u flow) length (flowAt u flow .weight) in
-      let n = neither-told (ltb tagLimit finish) (ltb tagLimit (flowAt u flow .next)) (h .1 .1 .1 .1 .0) in
-      ok (ltb-false 15 flow (h .0)) (not-false (flowAt u flow .opened) (h .1 .0)) (h .1 .1 .0) (leb-false 16 (waitingOf u flow) (h .1 .1 .1 .0))
-      (ltb-false tagLimit finish (n .0)) (ltb-false tagLimit (flowAt u flow .next) (n .1)))
+      let was = flowAt (u .queue) flow in
+      put-cases (u .queue) (λ (d : Kept). P (byQueue u (u .time) (u .largest) d)) no-way flow length (quoteOf was (u .time) length)
+      (λ low o good room fits.
+      let t = fits-told was (u .time) length good fits in
+      rw (t .2) (ok low o good room (ltb-false _ _ (t .0)) (ltb-false _ _ (t .1))))
 
-  pub begin-cases : (u .service .busy ≡ false → (place : ℕ) (p : Packet) → chosen u ≡ at place p → P (begun u (at place p))) → P (beginOf u)
+  pub begin-cases : (u .queue .service .busy ≡ false → (place : ℕ) (p : Packet) → chosenBy byStart (u .queue) ≡ at place p
+      → P (withQueue (p .start) (u .largest) (begunIn (u .queue) (at place p))))
+      → P (beginOf u)
   unfolding beginOf
-  begin-cases ok = first-cases (refused u) P no-way (beginGrounds u) (begun u (chosen u)) (λ h. go (h .0) (chosen u) refl)
-    where
-      go : u .service .busy ≡ false → (x : Choice Packet) → chosen u ≡ x → P (begun u x)
-      go idle nothing e = no-way NothingWaits
-      go idle (at place p) e = ok idle place p e
+  begin-cases ok = queue-begin (u .queue) (λ (d : Kept). P (begun u d)) no-way byStart ok
 
-  pub end-cases : (u .service .busy ≡ true → P (ended u)) → P (endOf u)
+  pub end-cases : (u .queue .service .busy ≡ true → P (withQueue (timeLeft u) (largestEnded u) (ended (u .queue)))) → P (endOf u)
   unfolding endOf
-  end-cases ok = first-cases (refused u) P no-way (endGrounds u) (ended u) (λ h. ok (not-false (u .service .busy) (h .0)))
+  end-cases ok = queue-end (u .queue) (λ (d : Kept). P (byQueue u (timeLeft u) (largestEnded u) d)) no-way ok

@@ -1,4 +1,3 @@
 pub mod Calls
-pub mod Laws
-pub mod Refused
 pub mod Cases
+pub mod Refused

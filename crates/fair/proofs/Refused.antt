@@ -1,71 +1,63 @@
--- A call is refused exactly for the first of its grounds that holds, and then leaves the lane as it was.
-use mathlib.Core.Path.{_≡_, refl}
-use mathlib.Core.Bool.{Bool, true, false, cond}
-use mathlib.Core.Option.{Option, none, some}
-use borrow.Author.Tests.{eq-eqb}
-use Rattle.units.specs.Refusals.{firstOf, unless}
+-- A call is refused exactly for the first of its grounds that holds, and then leaves the lane as it was: both as the queue has it.
+use mathlib.Core.Path.{_≡_, refl, _∙_}
+use mathlib.Core.Option.{Option, some}
 use Rattle.units.specs.declared.Refusal.{Refusal}
-use Rattle.units.specs.declared.Refusal.the-variants.{PacketInService, NothingWaits}
-use Rattle.units.proofs.Refusals.{unless-first, unless-same, none-is-none}
-use Rattle.places.specs.Choice.{Choice, nothing, at}
-use Rattle.places.proofs.Least.{none-held}
-use Rattle.tags.specs.declared.Packet.{Packet}
-use Rattle.tags.specs.Tags.{freePacket, isHeld}
-use Rattle.tags.specs.Grounds.{openingGrounds, closingGrounds, offeringGrounds}
+use Rattle.units.specs.declared.Tag.{Tag}
+use Rattle.units.proofs.Refusals.{passed-first, passed-same}
+use Rattle.packets.specs.declared.Flows.{Flows}
+use Rattle.packets.specs.declared.Kept.{Kept}
+use Rattle.packets.specs.Answers.{refusalIn, startIn}
+use Rattle.packets.specs.Queue.{flowAt, byStart}
+use Rattle.packets.specs.Quotes.{quoteOf}
+use Rattle.packets.specs.Calls.{openOf as openIn, closeOf as closeIn, beginBy, endOf as endIn}
+use Rattle.packets.proofs.Quotes.{quoted-first}
+use Rattle.packets.proofs.Refused.{refused-first as queue-first}
 use Rattle.fair.specs.declared.Fair.{Fair}
 use Rattle.fair.specs.declared.Done.{Done}
-use Rattle.fair.specs.Lane.{flowAt, waitingOf, waiting, busyWith, startOf, keyOf, chosen, beginGrounds, endGrounds}
-use Rattle.fair.specs.Calls.{refused, opened, openOf, closed, closeOf, accepted, offerOf, begun, beginOf, ended, endOf}
-use Rattle.fair.specs.Answers.{refusalIn}
+use Rattle.fair.specs.Lane.{largestEnded}
+use Rattle.fair.specs.Calls.{refused, withFlows, byFlows, withQueue, byQueue, openOf, closeOf, stamped, offerOf, beginOf, timeLeft, endOf}
 use Rattle.fair.specs.Laws.{RefusedFirst, RefusedSame}
 
-module _ (u : Fair) where
-  first : (o : Option Refusal) (d : Done) → refusalIn (d .answer) ≡ none → refusalIn (unless (refused u) o d .answer) ≡ o
-  first = unless-first (refused u) (λ (d : Done). refusalIn (d .answer)) (λ r. refl)
+abbrev refusalOf : Done → Option Refusal
+refusalOf d = refusalIn (d .answer)
 
-  -- begin: with nothing to choose from, it is refused for that, or for the packet in service
-  begin-first : (x : Choice Packet) → chosen u ≡ x → refusalIn (unless (refused u) (firstOf (beginGrounds u)) (begun u x) .answer) ≡ firstOf (beginGrounds u)
-  unfolding firstOf
-  begin-first nothing e = rw (eq-eqb (waiting u) 0 (none-held isHeld keyOf freePacket refl (u .packets) e)) (go (u .service .busy))
-    where
-      go : (b : Bool)
-          → refusalIn (unless (refused u) (cond b (some PacketInService) (some NothingWaits)) (refused u NothingWaits) .answer)
-          ≡ cond b (some PacketInService) (some NothingWaits)
-      go true = refl
-      go false = refl
-  begin-first (at place p) e = first (firstOf (beginGrounds u)) (begun u (at place p)) refl
+module _ (u : Fair) where
+  flows-first : (d : Flows) → refusalIn (byFlows u d .answer) ≡ refusalIn (d .answer)
+  flows-first d = passed-first (refused u) refusalOf (λ r. refl) (refusalIn (d .answer)) (withFlows u d) refl
+
+  first : (time largest : Tag) (d : Kept) → refusalIn (byQueue u time largest d .answer) ≡ refusalIn (d .answer)
+  first time largest d = passed-first (refused u) refusalOf (λ r. refl) (refusalIn (d .answer)) (withQueue time largest d) refl
 
   pub refused-first : RefusedFirst u
   unfolding openOf closeOf offerOf beginOf endOf
   refused-first =
+      let q = queue-first (u .queue) in
       record {
-        opening = λ flow weight. first (firstOf (openingGrounds flow weight (flowAt u flow))) (opened u flow weight) refl;
-        closing = λ flow. first (firstOf (closingGrounds flow (flowAt u flow) (waitingOf u flow) (busyWith (u .service) flow))) (closed u flow) refl;
+        opening = λ flow weight. flows-first (openIn (u .queue) flow weight) ∙ q .opening flow weight;
+        closing = λ flow. flows-first (closeIn (u .queue) flow) ∙ q .closing flow;
         offering = λ flow length.
-            first (firstOf (offeringGrounds flow (flowAt u flow) (waitingOf u flow) (startOf u flow) length)) (accepted u flow length) refl;
-        beginning = begin-first (chosen u) refl;
-        ending = first (firstOf (endGrounds u)) (ended u) refl;
+            first (u .time) (u .largest) (stamped u flow length)
+            ∙ q .putting flow length (quoteOf (flowAt (u .queue) flow) (u .time) length)
+            ∙ quoted-first (u .queue) flow (u .time) length;
+        beginning =
+            first (startIn (u .time) (beginBy byStart (u .queue) .answer)) (u .largest) (beginBy byStart (u .queue)) ∙ q .beginning byStart;
+        ending = first (timeLeft u) (largestEnded u) (endIn (u .queue)) ∙ q .ending;
       }
 
-  same : (o : Option Refusal) (d : Done) → ((r : Refusal) → refusalIn (d .answer) ≡ some r → d .lane ≡ u) → (r : Refusal)
-      → refusalIn (unless (refused u) o d .answer) ≡ some r → unless (refused u) o d .lane ≡ u
-  same = unless-same (refused u) (λ (d : Done). refusalIn (d .answer)) (λ (d : Done). d .lane) u (λ r. refl)
+  flows-same : (d : Flows) (r : Refusal) → refusalIn (byFlows u d .answer) ≡ some r → byFlows u d .lane ≡ u
+  flows-same d = passed-same (refused u) refusalOf (λ r. refl) (λ (d : Done). d .lane) u (λ r. refl) (refusalIn (d .answer)) (withFlows u d) refl
 
-  begun-same : (x : Choice Packet) (r : Refusal) → refusalIn (begun u x .answer) ≡ some r → begun u x .lane ≡ u
-  begun-same nothing r q = refl
-  begun-same (at place p) r q = absurd (none-is-none r q)
+  same : (time largest : Tag) (d : Kept) (r : Refusal) → refusalIn (byQueue u time largest d .answer) ≡ some r → byQueue u time largest d .lane ≡ u
+  same time largest d =
+      passed-same (refused u) refusalOf (λ r. refl) (λ (d : Done). d .lane) u (λ r. refl) (refusalIn (d .answer)) (withQueue time largest d) refl
 
   pub refused-same : (r : Refusal) → RefusedSame u r
   unfolding openOf closeOf offerOf beginOf endOf
   refused-same r =
       record {
-        opening = λ flow weight. same (firstOf (openingGrounds flow weight (flowAt u flow))) (opened u flow weight) (λ x q. absurd (none-is-none x q)) r;
-        closing = λ flow.
-            same (firstOf (closingGrounds flow (flowAt u flow) (waitingOf u flow) (busyWith (u .service) flow))) (closed u flow)
-            (λ x q. absurd (none-is-none x q)) r;
-        offering = λ flow length.
-            same (firstOf (offeringGrounds flow (flowAt u flow) (waitingOf u flow) (startOf u flow) length)) (accepted u flow length)
-            (λ x q. absurd (none-is-none x q)) r;
-        beginning = same (firstOf (beginGrounds u)) (begun u (chosen u)) (begun-same (chosen u)) r;
-        ending = same (firstOf (endGrounds u)) (ended u) (λ x q. absurd (none-is-none x q)) r;
+        opening = λ flow weight. flows-same (openIn (u .queue) flow weight) r;
+        closing = λ flow. flows-same (closeIn (u .queue) flow) r;
+        offering = λ flow length. same (u .time) (u .largest) (stamped u flow length) r;
+        beginning = same (startIn (u .time) (beginBy byStart (u .queue) .answer)) (u .largest) (beginBy byStart (u .queue)) r;
+        ending = same (timeLeft u) (largestEnded u) (endIn (u .queue)) r;
       }

@@ -1,4 +1,3 @@
 pub mod Lane
 pub mod Calls
 pub mod Laws
-pub mod Answers

@@ -1,49 +1,18 @@
-// The fair lane: sixteen flows with sixteen places each, and one packet in service at a time, the one with the smallest start tag.
-mod closing;
-mod offering;
-mod serving;
-
+// The fair lane: a queue of packets that serves the smallest start tag first, and the virtual time that new packets are stamped by.
 ghost use mathlib.Core.Path.{_≡_};
 ghost use Rattle.fair.specs.Lane.{freshLane};
-ghost use Rattle.fair.specs.Calls.{openOf};
-use tags::Flow;
-use tags::Packet;
-use units::LAST_FLOW;
-use units::Refusal;
+ghost use Rattle.fair.specs.Calls.{openOf, closeOf, offerOf, beginOf, endOf};
+// What a call is answered, as of every queue of packets.
+pub use packets::Answer;
+use packets::Queue;
 use units::Tag;
 
-// The service: idle, or busy with the packet of this flow, number, length in bytes and finish tag.
-#[repr(C)]
-pub struct Service {
-    pub busy: bool,
-    pub flow: u64,
-    pub number: u64,
-    pub length: u64,
-    pub finish: Tag,
-}
-
-// The lane: the virtual time, the largest finish tag of all packets ended, the service, the flows, and the places, of which flow f has
-// those from 16 f on.
+// The lane: the virtual time, the largest finish tag of all packets ended, and the queue.
 #[repr(C)]
 pub struct Fair {
     pub time: Tag,
     pub largest: Tag,
-    pub service: Service,
-    pub flows: [Flow; 16],
-    pub packets: [Packet; 256],
-}
-
-// What a call is answered.
-pub enum Answer {
-    Refused(Refusal),
-    Opened,
-    Closed,
-    // The packet's number, its start tag and its finish tag.
-    Accepted(u64, Tag, Tag),
-    // The flow, the number, the length and the start tag of the packet that goes into service.
-    Begun(u64, u64, u64, Tag),
-    // The flow, the number and the length of the packet that was in service.
-    Ended(u64, u64, u64),
+    pub queue: Queue,
 }
 
 // The lane after a call, and the answer.
@@ -57,29 +26,11 @@ impl Fair {
     pub fn fresh() -> Fair
         ensures { λ r. ⌜ r ≡ freshLane ⌝ }
     {
+        let queue = Queue::fresh();
         Fair {
             time: Tag(0),
             largest: Tag(0),
-            service: Service {
-                busy: false,
-                flow: 0,
-                number: 0,
-                length: 0,
-                finish: Tag(0),
-            },
-            flows: [Flow {
-                opened: false,
-                weight: 0,
-                next: 0,
-                finish: Tag(0),
-            }; 16],
-            packets: [Packet {
-                held: false,
-                number: 0,
-                length: 0,
-                start: Tag(0),
-                finish: Tag(0),
-            }; 256],
+            queue,
         }
     }
 
@@ -87,47 +38,148 @@ impl Fair {
     pub fn open(self, flow: u64, weight: u64) -> Done
         ensures { λ r. ⌜ r ≡ openOf self flow weight ⌝ }
     {
-        if LAST_FLOW < flow {
+        let was = self.queue;
+        let kept = flows::open(was, flow, weight);
+        let answer = kept.answer;
+        let Answer::Opened = answer else {
             return Done {
                 lane: self,
-                answer: Answer::Refused(Refusal::NoSuchFlow),
+                answer: answer,
             };
-        }
-        let f = flow as usize;
-        let mut flows = self.flows;
-        let was = flows[f];
-        if was.opened {
-            return Done {
-                lane: self,
-                answer: Answer::Refused(Refusal::AlreadyOpen),
-            };
-        }
-        if units::bad_weight(weight) {
-            return Done {
-                lane: self,
-                answer: Answer::Refused(Refusal::BadWeight),
-            };
-        }
-        let finish = was.finish;
-        flows[f] = Flow {
-            opened: true,
-            weight: weight,
-            next: was.next,
-            finish: finish,
         };
         let time = self.time;
         let largest = self.largest;
-        let service = self.service;
-        let packets = self.packets;
+        let service = was.service;
+        let flows = kept.flows;
+        let packets = was.packets;
         Done {
             lane: Fair {
                 time,
                 largest,
-                service,
-                flows,
-                packets,
+                queue: Queue {
+                    service,
+                    flows,
+                    packets,
+                },
             },
-            answer: Answer::Opened,
+            answer: answer,
+        }
+    }
+
+    // Closes a flow that has no packet waiting and none in service.
+    pub fn close(self, flow: u64) -> Done
+        ensures { λ r. ⌜ r ≡ closeOf self flow ⌝ }
+    {
+        let was = self.queue;
+        let kept = flows::close(was, flow);
+        let answer = kept.answer;
+        let Answer::Closed = answer else {
+            return Done {
+                lane: self,
+                answer: answer,
+            };
+        };
+        let time = self.time;
+        let largest = self.largest;
+        let service = was.service;
+        let flows = kept.flows;
+        let packets = was.packets;
+        Done {
+            lane: Fair {
+                time,
+                largest,
+                queue: Queue {
+                    service,
+                    flows,
+                    packets,
+                },
+            },
+            answer: answer,
+        }
+    }
+
+    // Offers a packet of a flow, of this length in bytes.
+    pub fn offer(self, flow: u64, length: u64) -> Done
+        ensures { λ r. ⌜ r ≡ offerOf self flow length ⌝ }
+    {
+        let was = self.queue;
+        let time = self.time;
+        let flow_was = was.flow_at(flow);
+        let quote = packets::quote_of(flow_was, time, length);
+        let kept = queue::put(was, flow, length, quote);
+        let answer = kept.answer;
+        let Answer::Accepted(_, _, _) = answer else {
+            return Done {
+                lane: self,
+                answer: answer,
+            };
+        };
+        let largest = self.largest;
+        let queue = kept.queue;
+        Done {
+            lane: Fair {
+                time,
+                largest,
+                queue,
+            },
+            answer: answer,
+        }
+    }
+
+    // Takes the waiting packet with the smallest start tag into service.
+    pub fn begin(self) -> Done
+        ensures { λ r. ⌜ r ≡ beginOf self ⌝ }
+    {
+        let was = self.queue;
+        let kept = queue::begin(was);
+        let answer = kept.answer;
+        let Answer::Begun(_, _, _, time) = answer else {
+            return Done {
+                lane: self,
+                answer: answer,
+            };
+        };
+        let largest = self.largest;
+        let queue = kept.queue;
+        Done {
+            lane: Fair {
+                time,
+                largest,
+                queue,
+            },
+            answer: answer,
+        }
+    }
+
+    // Ends the packet in service. Where none waits then, virtual time goes on to the largest finish tag of all packets ended.
+    pub fn end(self) -> Done
+        ensures { λ r. ⌜ r ≡ endOf self ⌝ }
+    {
+        let was = self.queue;
+        let kept = queue::end(was);
+        let answer = kept.answer;
+        let Answer::Ended(_, _, _) = answer else {
+            return Done {
+                lane: self,
+                answer: answer,
+            };
+        };
+        let service = was.service;
+        let so_far = self.largest;
+        let finish = service.finish;
+        let largest = tags::later(so_far, finish);
+        let mut time = self.time;
+        if was.waiting() == 0 {
+            time = largest;
+        }
+        let queue = kept.queue;
+        Done {
+            lane: Fair {
+                time,
+                largest,
+                queue,
+            },
+            answer: answer,
         }
     }
 }

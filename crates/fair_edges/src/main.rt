@@ -180,12 +180,14 @@ fn unreachable_states() {
     close(close(open(serving(5, 9), 2, 1), 3), 2);
     case(b"a shut flow with packets waiting");
     let mut shut = two_waiting(3, 6);
-    shut.flows[0] = Flow {
+    let mut queue = shut.queue;
+    queue.flows[0] = Flow {
         opened: false,
         weight: 1,
         next: 0,
         finish: Tag(0),
     };
+    shut.queue = queue;
     begin(close(shut, 0));
     case(b"numbers and tags at their last, kept through a closing");
     let last = written(0, 1, 4611686018427387904, 4611686018427342859);

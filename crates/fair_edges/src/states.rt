@@ -1,6 +1,6 @@
 // Lanes that are written out, and not come to by calls.
 use fair::Fair;
-use fair::Service;
+use packets::Service;
 use tags::Flow;
 use tags::Packet;
 use units::Tag;
@@ -10,12 +10,14 @@ pub(crate) fn written(time: u64, weight: u64, next: u64, finish: u64) -> Fair {
     let mut lane = Fair::fresh();
     let now = Tag(time);
     lane.time = now;
-    lane.flows[0] = Flow {
+    let mut queue = lane.queue;
+    queue.flows[0] = Flow {
         opened: true,
         weight: weight,
         next: next,
         finish: Tag(finish),
     };
+    lane.queue = queue;
     lane
 }
 
@@ -31,26 +33,30 @@ pub(crate) fn serving(finish: u64, largest: u64) -> Fair {
         finish: Tag(finish),
     };
     lane.largest = so_far;
-    lane.service = service;
+    let mut queue = lane.queue;
+    queue.service = service;
+    lane.queue = queue;
     lane
 }
 
 // A lane with two packets of flow 0 that start here and here, the one with the lower number in the later place.
 pub(crate) fn two_waiting(first: u64, second: u64) -> Fair {
     let mut lane = written(0, 1, 0, 0);
-    lane.packets[2] = Packet {
+    let mut queue = lane.queue;
+    queue.packets[2] = Packet {
         held: true,
         number: 8,
         length: 20,
         start: Tag(first),
         finish: Tag(first),
     };
-    lane.packets[5] = Packet {
+    queue.packets[5] = Packet {
         held: true,
         number: 4,
         length: 50,
         start: Tag(second),
         finish: Tag(second),
     };
+    lane.queue = queue;
     lane
 }

@@ -23,6 +23,9 @@ use Rattle.link.specs.Demand.{demandOf, failsFrom}
 use Rattle.link.specs.Rate.{rateOf, greatestOf}
 use Rattle.link.specs.Verdicts.{byNumbers, admitOf}
 use Rattle.urgent.specs.Calls.{openOf, closeOf, offerOf, turnOf}
+use Rattle.tags.specs.Tags.{finishOf}
+use Rattle.packets.specs.Quotes.{quoteOf}
+use Rattle.packets.specs.Calls.{openOf as openIn, putOf}
 use Rattle.fair.specs.Calls.{openOf as openFairOf, offerOf as offerPacketOf}
 use Rattle.station.specs.Calls.{callOf}
 use Rattle.station.specs.declared.Call.the-variants.{OfferCell}
@@ -48,11 +51,11 @@ history :
     (arrivals calls ≡ brought)
     × (run calls .cells .sent ≡ gone 0 2 6 ∷ gone 1 2 5 ∷ gone 1 1 4 ∷ gone 0 1 3 ∷ gone 0 0 2 ∷ gone 1 0 1 ∷ [])
     × (run calls .cells .marks ≡ marks)
-unfolding runFrom callOf openOf closeOf offerOf turnOf openFairOf offerPacketOf firstOf count firstFree comesBefore better least inForce
+unfolding runFrom callOf openOf closeOf offerOf turnOf openFairOf openIn offerPacketOf putOf quoteOf finishOf firstOf count firstFree comesBefore better least inForce
 history = (refl, refl, refl)
 
 full : FullDeadlines calls
-unfolding runFrom callOf openOf closeOf offerOf turnOf openFairOf offerPacketOf firstOf count firstFree comesBefore better least inForce
+unfolding runFrom callOf openOf closeOf offerOf turnOf openFairOf openIn offerPacketOf putOf quoteOf finishOf firstOf count firstFree comesBefore better least inForce
 full = (refl, (refl, (refl, (refl, (refl, (refl, tt))))))
 
 admitted : admitOf twoFlows ≡ Admitted

@@ -3,7 +3,7 @@ use mathlib.Core.Path.{_≡_}
 use Rattle.units.specs.Refusals.{numberOf}
 use Rattle.units.specs.declared.Refusal.{Refusal}
 use Rattle.urgent.specs.declared.Answer.the-variants.{Refused as UrgentRefused}
-use Rattle.fair.specs.declared.Answer.the-variants.{Refused as FairRefused}
+use Rattle.packets.specs.declared.Answer.the-variants.{Refused as FairRefused}
 use Rattle.station.specs.declared.Reply.the-variants.{Urgent, Fair}
 use Rattle.plain.specs.declared.Answer.{Answer}
 use Rattle.plain.specs.Plain.{answerOf}

@@ -7,8 +7,8 @@ use Rattle.units.specs.Answers.{Told}
 use Rattle.units.specs.declared.Refusal.{Refusal}
 use Rattle.urgent.specs.declared.Answer.{Answer as UrgentAnswer}
 use Rattle.urgent.specs.declared.Answer.the-variants.{Refused as UrgentRefused, Opened as UrgentOpened, Closed as UrgentClosed, Accepted as CellAccepted, Sent, Idle}
-use Rattle.fair.specs.declared.Answer.{Answer as FairAnswer}
-use Rattle.fair.specs.declared.Answer.the-variants.{Refused as FairRefused, Opened as FairOpened, Closed as FairClosed, Accepted as PacketAccepted, Begun, Ended}
+use Rattle.packets.specs.declared.Answer.{Answer as FairAnswer}
+use Rattle.packets.specs.declared.Answer.the-variants.{Refused as FairRefused, Opened as FairOpened, Closed as FairClosed, Accepted as PacketAccepted, Begun, Ended}
 use Rattle.station.specs.Answers.{told, refusalIn}
 use Rattle.station.specs.declared.Reply.{Reply}
 use Rattle.station.specs.declared.Reply.the-variants.{Urgent, Fair}

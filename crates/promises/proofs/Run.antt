@@ -16,7 +16,7 @@ use Rattle.units.specs.Refusals.{firstOf}
 use Rattle.station.specs.Answers.{refusalIn}
 use Rattle.promises_urgent.proofs.Account.{refused-as-noted as urgent-noted}
 use Rattle.promises_fair.proofs.Account.{refused-as-noted as fair-noted, opening-keeps, closing-keeps, offer-keeps, never-falls}
-use Rattle.promises_fair.specs.Packets.{virtualTime}
+use Rattle.promises_fair.specs.Times.{virtualTime}
 use Rattle.fair.specs.Calls.{openOf as openFairOf, closeOf as closeFairOf, offerOf as offerPacketOf}
 use Rattle.promises_fair.proofs.Good.{Good as FairGood, good-fresh as fair-fresh, good-open as fair-open, good-close as fair-close, good-offer as fair-offer, good-begin, good-end, good-other}
 use Rattle.promises_urgent.proofs.Good.{Good, good-fresh, good-open, good-close, good-offer, good-turn}

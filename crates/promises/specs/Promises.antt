@@ -11,10 +11,11 @@ use Rattle.units.specs.Radio.{slotsPassed}
 use Rattle.link.specs.Published.{Published, OthersFail}
 use Rattle.promises_urgent.specs.Promised.{OnTime, acceptedOf, Accounted, Earliest, lastIn, CellsNumbered, Windowed, FewNumbers, OwnPlan, NoneBetter, Explained, TermsStand}
 use Rattle.promises_urgent.specs.Refused.{openingNoted as urgentOpening, closingNoted as urgentClosing, offeringNoted as cellOffering, turnNoted}
-use Rattle.promises_fair.specs.Packets.{virtualTime}
-use Rattle.promises_fair.specs.Promised.{acceptedOf as packetsOf, startIn, finishTag, First, ServedInOrder, LastBegun, NumbersGoOn}
-use Rattle.promises_fair.specs.Promised.{TermsStand as FairTermsStand}
-use Rattle.promises_fair.specs.Refused.{openingNoted as fairOpening, closingNoted as fairClosing, offeringNoted as packetOffering, beginNoted, endNoted}
+use Rattle.promises_queue.specs.Promised.{acceptedOf as packetsOf, LastBegun, TermsStand as FairTermsStand}
+use Rattle.promises_queue.specs.Refused.{openingNoted as fairOpening, closingNoted as fairClosing, beginNoted, endNoted}
+use Rattle.promises_fair.specs.Times.{virtualTime}
+use Rattle.promises_fair.specs.Promised.{startIn, finishTag, First, ServedInOrder, NumbersGoOn}
+use Rattle.promises_fair.specs.Refused.{offeringNoted as packetOffering}
 use Rattle.station.specs.declared.Call.{Call}
 use Rattle.station.specs.declared.Call.the-variants.{OpenUrgent, OpenFair, CloseUrgent, CloseFair, OfferCell, OfferPacket, OpenTurn, LostTurn, Begin, End}
 use Rattle.station.specs.Calls.{freshStation}

@@ -2,12 +2,12 @@
 use mathlib.Core.Bool.{Bool, true, false, cond}
 use mathlib.Core.List.{List, [], _∷_}
 use Rattle.urgent.specs.declared.Answer.{Answer as UrgentAnswer}
-use Rattle.fair.specs.declared.Answer.{Answer as FairAnswer}
+use Rattle.packets.specs.declared.Answer.{Answer as FairAnswer}
 use Rattle.promises_urgent.specs.Cells.{Cells, noCells}
 use Rattle.promises_urgent.specs.Notes.{noteOpening, noteClosing, noteOffer, noteTurn}
-use Rattle.promises_fair.specs.Packets.{Packets, noPackets}
-use Rattle.promises_fair.specs.Notes.{noteOther, noteService}
-use Rattle.promises_fair.specs.Notes.{noteOpening as noteFairOpening, noteClosing as noteFairClosing, noteOffer as notePacket}
+use Rattle.promises_queue.specs.Packets.{Packets, noPackets}
+use Rattle.promises_queue.specs.Notes.{noteOther, noteService}
+use Rattle.promises_queue.specs.Notes.{noteOpening as noteFairOpening, noteClosing as noteFairClosing, noteOffer as notePacket}
 use Rattle.station.specs.declared.Station.{Station}
 use Rattle.station.specs.declared.Reply.{Reply}
 use Rattle.station.specs.declared.Reply.the-variants.{Urgent, Fair}

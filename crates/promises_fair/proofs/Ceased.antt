@@ -10,89 +10,75 @@ use Rattle.places.specs.Places.{count}
 use Rattle.places.specs.Marks.{Mark}
 use Rattle.places.proofs.Count.{count-le, and-le-right}
 use Rattle.tags.proofs.Tags.{later-max}
-use Rattle.fair.specs.declared.Service.{Service}
+use Rattle.packets.specs.declared.Service.{Service}
+use Rattle.packets.specs.Calls.{ended}
 use Rattle.fair.specs.declared.Fair.{Fair}
 use Rattle.fair.specs.Lane.{largestEnded as largestOf}
-use Rattle.fair.specs.Calls.{ended}
-use Rattle.promises_fair.specs.Packets.{Packet, Moment, began, ceased, finishIn, wasBegun, lastStart, largestEnded, virtualTime}
-use Rattle.promises_fair.specs.Promised.{Question, begunOf}
-use Rattle.promises_fair.proofs.Kept.{notBegun, asks, asked, Serves, Kept, InHand, Paced, waiting-all}
+use Rattle.fair.specs.Calls.{withQueue, timeLeft}
+use Rattle.promises_queue.specs.Packets.{Packet, Moment, began, ceased, wasBegun}
+use Rattle.promises_queue.specs.Promised.{Question}
+use Rattle.promises_queue.proofs.Kept.{notBegun, asks, asked, Serves, waiting-all}
+use Rattle.promises_queue.proofs.Ceased.{finishOfThis, ends, finish-served, kept-end as queue-end}
+use Rattle.promises_fair.specs.Times.{lastStart, largestEnded, virtualTime}
+use Rattle.promises_fair.proofs.Kept.{FairKept, InHand, Paced}
 
--- the finish tag of the packet in service, as it was accepted
-abbrev pub finishOfThis : Service → List Packet → ℕ
-finishOfThis v ps = finishIn ps (v .flow) (v .number)
-
--- the end of the packet in service, told by the call of this position
-abbrev pub ends : Service → List Packet → List Moment → ℕ → Moment
-ends v ps ms position = ceased (v .flow) (v .number) (v .length) position (finishOfThis v ps) (count (notBegun ms) ps)
-
--- while a packet is in service: its finish tag is that of its acceptance, and virtual time is the start tag of the packet last begun and
--- no larger than that finish
+-- while a packet is in service, virtual time is the start tag of the packet last begun and no larger than its finish
 pub record InService (v : Service) (ps : List Packet) (ms : List Moment) : Type 0 where
-  pub finish : v .finish .0 ≡ finishOfThis v ps
   pub start : virtualTime ms ≡ lastStart ms
   pub late : virtualTime ms ≤ finishOfThis v ps
 
+-- so it is while the service is busy
 pub in-service : (v : Service) (ps : List Packet) (ms : List Moment) → v .busy ≡ true → Serves v ps ms → InHand ps ms → InService v ps ms
 unfolding virtualTime lastStart
 in-service v ps [] b s h = absurd (true≢false (sym b ∙ s))
-in-service v ps (began f n l x p ∷ ms) b s h = record { finish = rw (s .1, s .2) (s .4); start = refl; late = rw (s .1, s .2) (h .1) }
+in-service v ps (began f n l x p ∷ ms) b s h = record { start = refl; late = rw (s .1, s .2) h }
 in-service v ps (ceased f n l p x w ∷ ms) b s h = absurd (true≢false (sym b ∙ s))
 
 module _
-    (u : Fair)
-    (marks : List Mark)
-    (ps : List Packet)
-    (ms : List Moment)
-    (k : Kept u marks ps ms)
-    (t : Paced ps ms)
-    (busy : u .service .busy ≡ true)
+    {u : Fair}
+    {marks : List Mark}
+    {ps : List Packet}
+    {ms : List Moment}
+    (k : FairKept u marks ps ms)
+    (paced : Paced ps ms)
+    (busy : u .queue .service .busy ≡ true)
     (position : ℕ) where
-  this : InService (u .service) ps ms
-  this = in-service (u .service) ps ms busy (k .service) (t .inHand)
+  -- the packet that ends
+  this : InService (u .queue .service) ps ms
+  this = in-service (u .queue .service) ps ms busy (k .queue .service) (paced .inHand)
 
   -- the largest finish tag of all packets ended, with this one
   largest : ℕ
-  largest = max (finishOfThis (u .service) ps) (largestEnded ms)
+  largest = max (finishOfThis (u .queue .service) ps) (largestEnded ms)
 
+  -- as the lane has it
   largest-told : largestOf u .0 ≡ largest
   unfolding largest
-  largest-told = omega (arith, later-max (u .largest) (u .service .finish), k .largest, this .finish)
+  largest-told =
+      omega (arith, later-max (u .largest) (u .queue .service .finish), k .largest, finish-served (u .queue .service) ps ms busy (k .queue .service))
 
-  pub kept-end : Kept (ended u .lane) marks ps (ends (u .service) ps ms position ∷ ms)
-  unfolding virtualTime largestEnded wasBegun largest
+  -- the lane is still what the calls and answers tell
+  pub kept-end : FairKept (withQueue (timeLeft u) (largestOf u) (ended (u .queue)) .lane) marks ps (ends (u .queue .service) ps ms position ∷ ms)
+  unfolding virtualTime largestEnded largest
   kept-end =
       record {
-        sixteen = k .sixteen;
-        long = k .long;
-        openFlows = k .openFlows;
-        weights = k .weights;
-        fit = k .fit;
-        next = k .next;
+        queue = queue-end (k .queue) position;
         finishes = k .finishes;
-        tied = k .tied;
-        time = rw (waiting-all u marks ps ms k) (go (eqb (count (notBegun ms) ps) 0));
+        time = rw (waiting-all (k .queue)) (go (eqb (count (notBegun ms) ps) 0));
         largest = largest-told;
-        service = refl;
       }
     where
       go : (b : Bool) → cond b (largestOf u) (u .time) .0 ≡ cond b largest (lastStart ms)
       go true = largest-told
       go false = k .time ∙ this .start
 
-  pub paced-end : Paced ps (ends (u .service) ps ms position ∷ ms)
-  unfolding virtualTime largestEnded wasBegun begunOf largest
+  -- and that still keeps pace
+  pub paced-end : Paced ps (ends (u .queue .service) ps ms position ∷ ms)
+  unfolding virtualTime largestEnded wasBegun largest
   paced-end =
-      record {
-        few = t .few;
-        numbered = t .numbered;
-        rising = t .rising;
-        inOrder = t .inOrder;
-        begun = t .begun;
-        inHand = tt;
-        onTime = go (eqb (count (notBegun ms) ps) 0) refl;
-      }
+      record { few = paced .few; rising = paced .rising; inHand = tt; onTime = go (eqb (count (notBegun ms) ps) 0) refl }
     where
+      -- a packet starts before v
       earlier : ℕ → Question
       earlier v f n l s x = ltb s v
 
@@ -103,4 +89,4 @@ module _
             eqb-true (count (notBegun ms) ps) 0 q,
             count-le (λ (a : Packet). asks (earlier largest) a && notBegun ms a) (notBegun ms) (λ a. and-le-right (asks (earlier largest) a) (notBegun ms a)) ps,
           )
-      go false q = subst (λ (v : ℕ). asked ps ms (earlier v) ≡ 0) (this .start) (t .onTime)
+      go false q = subst (λ (v : ℕ). asked ps ms (earlier v) ≡ 0) (this .start) (paced .onTime)

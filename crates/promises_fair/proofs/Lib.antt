@@ -1,9 +1,7 @@
-pub mod Numbers
+pub mod Rising
 pub mod Kept
 pub mod Offered
-pub mod Chosen
 pub mod Began
 pub mod Ceased
-pub mod Terms
 pub mod Good
 pub mod Account

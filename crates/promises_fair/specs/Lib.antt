@@ -1,4 +1,3 @@
-pub mod Packets
-pub mod Notes
+pub mod Times
 pub mod Promised
 pub mod Refused

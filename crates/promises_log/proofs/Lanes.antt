@@ -20,10 +20,12 @@ use Rattle.tags.specs.declared.Flow.{Flow as FairFlow}
 use Rattle.tags.specs.Tags.{freePacket}
 use Rattle.fair.specs.declared.Fair.{Fair as FairLane}
 use Rattle.fair.specs.declared.Done.{Done as FairDone}
-use Rattle.fair.specs.declared.Answer.the-variants.{Opened as FairOpened}
-use Rattle.fair.specs.Lane.{idle, flowAt as fairAt}
-use Rattle.fair.specs.Calls.{openOf as openFairOf, opened as fairOpened}
-use Rattle.fair.proofs.Calls.{open-3 as fair-3, open-ok as fair-ok}
+use Rattle.packets.specs.declared.Answer.the-variants.{Opened as FairOpened}
+use Rattle.packets.specs.declared.Flows.{Flows}
+use Rattle.packets.specs.Queue.{idle, flowAt as fairAt}
+use Rattle.packets.specs.Calls.{openOf as openIn, opened as fairOpened}
+use Rattle.packets.proofs.Calls.{open-3 as fair-3, open-ok as fair-ok}
+use Rattle.fair.specs.Calls.{withFlows, byFlows, openOf as openFairOf}
 use Rattle.station.specs.declared.Station.{Station}
 use Rattle.station.specs.Calls.{freshStation}
 use Rattle.logging.specs.Logging.{Opened, nothingOpened, openedWith}
@@ -46,7 +48,11 @@ urgentWith ds = record { now = record { 0 = 0 }; flows = map urgentFlow ds; cell
 
 unfoldable pub fairWith : List ℕ → FairLane
 fairWith ws =
-    record { time = record { 0 = 0 }; largest = record { 0 = 0 }; service = idle; flows = map fairFlow ws; packets = replicate 256 freePacket }
+    record {
+      time = record { 0 = 0 };
+      largest = record { 0 = 0 };
+      queue = record { service = idle; flows = map fairFlow ws; packets = replicate 256 freePacket };
+    }
 
 abbrev pub stationWith : Opened → Station
 stationWith o = record { urgent = urgentWith (o .deadlines); fair = fairWith (o .weights) }
@@ -89,27 +95,32 @@ module _ (ds : List ℕ) (flow deadline : ℕ) (l : flow ≤ 15) (b : badDeadlin
       go false e = ap (λ (d : UrgentDone). d .lane) (sym (urgent-3 (urgentWith ds) flow deadline l (urgent-mark ∙ rw e)))
 
 module _ (ws : List ℕ) (flow weight : ℕ) (l : flow ≤ 15) (b : badWeight weight ≡ false) where
-  fair-mark : fairAt (fairWith ws) flow .opened ≡ not (eqb (getD ws flow 0) 0)
+  fair-mark : fairAt (fairWith ws .queue) flow .opened ≡ not (eqb (getD ws flow 0) 0)
   unfolding fairWith
   fair-mark = ap (λ (x : FairFlow). x .opened) (List·getD-map fairFlow ws flow 0)
 
-  fair-was : fairAt (fairWith ws) flow ≡ fairFlow (getD ws flow 0)
+  fair-was : fairAt (fairWith ws .queue) flow ≡ fairFlow (getD ws flow 0)
   unfolding fairWith
   fair-was = List·getD-map fairFlow ws flow 0
 
-  fair-set : fairOpened (fairWith ws) flow weight .lane ≡ fairWith (set ws flow weight)
+  fair-set : withFlows (fairWith ws) (fairOpened (fairWith ws .queue) flow weight) .lane ≡ fairWith (set ws flow weight)
   unfolding fairWith
   fair-set =
-      let n : fairAt (fairWith ws) flow .next ≡ 0 = ap (λ (x : FairFlow). x .next) fair-was in
-      let x : record { opened = true; weight = weight; next = fairAt (fairWith ws) flow .next; finish = fairAt (fairWith ws) flow .finish } ≡ fairFlow weight =
+      let n : fairAt (fairWith ws .queue) flow .next ≡ 0 = ap (λ (x : FairFlow). x .next) fair-was in
+      let x : record { opened = true; weight = weight; next = fairAt (fairWith ws .queue) flow .next; finish = fairAt (fairWith ws .queue) flow .finish } ≡ fairFlow weight =
       ap (λ (y : FairFlow). record { opened = true; weight = weight; next = y .next; finish = y .finish }) fair-was
       ∙ rw (positive weight 16 b) in
-      ap (λ (fs : List FairFlow). record { time = record { 0 = 0 }; largest = record { 0 = 0 }; service = idle; flows = fs; packets = replicate 256 freePacket })
+      ap (λ (fs : List FairFlow). withFlows (fairWith ws) (record { flows = fs; answer = FairOpened }) .lane)
       (ap (set (map fairFlow ws) flow) x ∙ map-set fairFlow ws flow weight)
+
+  -- what the queue gives is what the lane gives
+  fair-by : (d : Flows) → d ≡ openIn (fairWith ws .queue) flow weight → byFlows (fairWith ws) d ≡ openFairOf (fairWith ws) flow weight
+  unfolding openFairOf
+  fair-by d = ap (byFlows (fairWith ws))
 
   pub fair-new : eqb (getD ws flow 0) 0 ≡ true → openFairOf (fairWith ws) flow weight ≡ record { lane = fairWith (set ws flow weight); answer = FairOpened }
   fair-new e =
-      sym (fair-ok (fairWith ws) flow weight l (fair-mark ∙ rw e) b)
+      sym (fair-by _ (fair-ok (fairWith ws .queue) flow weight l (fair-mark ∙ rw e) b))
       ∙ ap (λ (u : FairLane). record { lane = u; answer = FairOpened }) fair-set
 
   pub fair-open : openFairOf (fairWith ws) flow weight .lane ≡ fairWith (openedWith ws flow weight)
@@ -117,4 +128,4 @@ module _ (ws : List ℕ) (flow weight : ℕ) (l : flow ≤ 15) (b : badWeight we
     where
       go : (t : Bool) → eqb (getD ws flow 0) 0 ≡ t → openFairOf (fairWith ws) flow weight .lane ≡ fairWith (cond t (set ws flow weight) ws)
       go true e = ap (λ (d : FairDone). d .lane) (fair-new e)
-      go false e = ap (λ (d : FairDone). d .lane) (sym (fair-3 (fairWith ws) flow weight l (fair-mark ∙ rw e)))
+      go false e = ap (λ (d : FairDone). d .lane) (sym (fair-by _ (fair-3 (fairWith ws .queue) flow weight l (fair-mark ∙ rw e))))

@@ -11,7 +11,7 @@ use lib.Seq.{set-at, getD-at}
 use Rattle.units.specs.Limits.{badWeight, badDeadline, outsideOf}
 use Rattle.urgent.specs.declared.Answer.the-variants.{Opened as UrgentOpened}
 use Rattle.urgent.specs.declared.Done.{Done as UrgentDone}
-use Rattle.fair.specs.declared.Answer.the-variants.{Opened as FairOpened}
+use Rattle.packets.specs.declared.Answer.the-variants.{Opened as FairOpened}
 use Rattle.fair.specs.declared.Done.{Done as FairDone}
 use Rattle.station.specs.declared.Station.{Station}
 use Rattle.station.specs.declared.Called.{Called}

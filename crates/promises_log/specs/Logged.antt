@@ -12,7 +12,7 @@ use Rattle.station.specs.declared.Reply.{Reply}
 use Rattle.station.specs.declared.Reply.the-variants.{Urgent, Fair}
 use Rattle.station.specs.Calls.{freshStation, callOf}
 use Rattle.urgent.specs.declared.Answer.the-variants.{Opened}
-use Rattle.fair.specs.declared.Answer.the-variants.{Opened as FairOpened}
+use Rattle.packets.specs.declared.Answer.the-variants.{Opened as FairOpened}
 use Rattle.promises_urgent.specs.Cells.{deadlineIn}
 use Rattle.promises.specs.Run.{run, replies}
 use Rattle.log.specs.declared.Form.the-variants.{Flow, Own}

@@ -6,8 +6,8 @@ use Rattle.units.specs.declared.Refusal.the-variants.{NoCommand}
 use Rattle.units.specs.Refusals.{numberOf}
 use Rattle.urgent.specs.declared.Answer as urgent
 use Rattle.urgent.specs.declared.Answer.the-variants.{Refused, Opened, Closed, Accepted, Sent, Idle}
-use Rattle.fair.specs.declared.Answer as fair
-use Rattle.fair.specs.declared.Answer.the-variants.{Refused as Refused', Opened as Opened', Closed as Closed', Accepted as Accepted', Begun, Ended}
+use Rattle.packets.specs.declared.Answer as fair
+use Rattle.packets.specs.declared.Answer.the-variants.{Refused as Refused', Opened as Opened', Closed as Closed', Accepted as Accepted', Begun, Ended}
 use Rattle.station.specs.declared.Reply.{Reply}
 use Rattle.station.specs.declared.Reply.the-variants.{Urgent, Fair}
 use Rattle.text.specs.Decimal.{decimalOf}

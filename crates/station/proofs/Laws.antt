@@ -5,9 +5,9 @@ use Rattle.units.specs.Answers.{numberIn}
 use Rattle.urgent.specs.declared.Answer.{Answer as UrgentAnswer}
 use Rattle.urgent.specs.declared.Answer.the-variants.{Refused, Opened, Closed, Accepted, Sent, Idle}
 use Rattle.urgent.specs.Answers.{told as urgentTold, refusalIn as urgentRefusal}
-use Rattle.fair.specs.declared.Answer.{Answer as FairAnswer}
-use Rattle.fair.specs.declared.Answer.the-variants.{Refused as FairRefused, Opened as FairOpened, Closed as FairClosed, Accepted as FairAccepted, Begun, Ended}
-use Rattle.fair.specs.Answers.{told as fairTold, refusalIn as fairRefusal}
+use Rattle.packets.specs.declared.Answer.{Answer as FairAnswer}
+use Rattle.packets.specs.declared.Answer.the-variants.{Refused as FairRefused, Opened as FairOpened, Closed as FairClosed, Accepted as FairAccepted, Begun, Ended}
+use Rattle.packets.specs.Answers.{told as fairTold, refusalIn as fairRefusal}
 use Rattle.urgent.specs.declared.Urgent.{Urgent as UrgentLane}
 use Rattle.fair.specs.declared.Fair.{Fair as FairLane}
 use Rattle.urgent.specs.Calls.{openOf as openUrgentOf, closeOf as closeUrgentOf, offerOf as offerCellOf, turnOf}

@@ -3,7 +3,7 @@ use mathlib.Core.Option.{Option}
 use Rattle.units.specs.Answers.{Told}
 use Rattle.units.specs.declared.Refusal.{Refusal}
 use Rattle.urgent.specs.Answers.{told as urgentTold, refusalIn as urgentRefusal}
-use Rattle.fair.specs.Answers.{told as fairTold, refusalIn as fairRefusal}
+use Rattle.packets.specs.Answers.{told as fairTold, refusalIn as fairRefusal}
 use Rattle.station.specs.declared.Reply.{Reply}
 use Rattle.station.specs.declared.Reply.the-variants.{Urgent, Fair}
 

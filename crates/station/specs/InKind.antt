@@ -6,7 +6,7 @@ use Rattle.units.specs.declared.Refusal.{Refusal}
 use Rattle.units.specs.declared.Slot.{Slot}
 use Rattle.units.specs.declared.Tag.{Tag}
 use Rattle.urgent.specs.declared.Answer.the-variants.{Refused, Opened, Closed, Accepted, Sent, Idle}
-use Rattle.fair.specs.declared.Answer.the-variants.{Refused as FairRefused, Opened as FairOpened, Closed as FairClosed, Accepted as FairAccepted, Begun, Ended}
+use Rattle.packets.specs.declared.Answer.the-variants.{Refused as FairRefused, Opened as FairOpened, Closed as FairClosed, Accepted as FairAccepted, Begun, Ended}
 use Rattle.station.specs.declared.Station.{Station}
 use Rattle.station.specs.declared.Reply.{Reply}
 use Rattle.station.specs.declared.Reply.the-variants.{Urgent, Fair}

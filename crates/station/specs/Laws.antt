@@ -8,7 +8,8 @@ use Rattle.units.specs.Refusals.{Ground, numberOf, firstOf}
 use Rattle.units.specs.Answers.{numberIn}
 use Rattle.units.specs.declared.Refusal.{Refusal}
 use Rattle.urgent.specs.Lane.{openingGrounds as urgentOpening, closingGrounds as urgentClosing, offeringGrounds as cellOffering, turnGrounds}
-use Rattle.fair.specs.Lane.{flowAt, waitingOf, busyWith, startOf, beginGrounds, endGrounds}
+use Rattle.packets.specs.Queue.{flowAt, waitingOf, busyWith, beginGrounds, endGrounds}
+use Rattle.fair.specs.Lane.{startOf}
 use Rattle.tags.specs.Grounds.{openingGrounds as fairOpening, closingGrounds as fairClosing, offeringGrounds as packetOffering}
 use Rattle.station.specs.declared.Station.{Station}
 use Rattle.station.specs.declared.Call.{Call}
@@ -19,15 +20,15 @@ use Rattle.station.specs.Answers.{told, refusalIn}
 -- what a call may be refused for, in the order in which the refusals are given
 abbrev pub groundsOf : Station → Call → List Ground
 groundsOf s (OpenUrgent flow deadline) = urgentOpening (s .urgent) flow deadline
-groundsOf s (OpenFair flow weight) = fairOpening flow weight (flowAt (s .fair) flow)
+groundsOf s (OpenFair flow weight) = fairOpening flow weight (flowAt (s .fair .queue) flow)
 groundsOf s (CloseUrgent flow) = urgentClosing (s .urgent) flow
-groundsOf s (CloseFair flow) = fairClosing flow (flowAt (s .fair) flow) (waitingOf (s .fair) flow) (busyWith (s .fair .service) flow)
+groundsOf s (CloseFair flow) = fairClosing flow (flowAt (s .fair .queue) flow) (waitingOf (s .fair .queue) flow) (busyWith (s .fair .queue .service) flow)
 groundsOf s (OfferCell flow deadline) = cellOffering (s .urgent) flow deadline
-groundsOf s (OfferPacket flow length) = packetOffering flow (flowAt (s .fair) flow) (waitingOf (s .fair) flow) (startOf (s .fair) flow) length
+groundsOf s (OfferPacket flow length) = packetOffering flow (flowAt (s .fair .queue) flow) (waitingOf (s .fair .queue) flow) (startOf (s .fair) flow) length
 groundsOf s OpenTurn = turnGrounds (s .urgent)
 groundsOf s LostTurn = turnGrounds (s .urgent)
-groundsOf s Begin = beginGrounds (s .fair)
-groundsOf s End = endGrounds (s .fair)
+groundsOf s Begin = beginGrounds (s .fair .queue)
+groundsOf s End = endGrounds (s .fair .queue)
 
 -- A call is refused exactly for the first of its grounds that holds.
 abbrev pub RefusedFirst : Type 0

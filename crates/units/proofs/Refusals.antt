@@ -43,6 +43,10 @@ after-flow flow xs ys h = go (ltb 15 flow) refl
     go true p = refl
     go false p = ap firstOf (h (ltb-false 15 flow p))
 
+-- no refusal is no refusal
+pub none-is-none : (r : Refusal) → none ≡ some r → ⊥
+none-is-none r p = let z : _≡_ {A = ℕ} 0 1 = cc in omega arith
+
 -- no ground of a list holds
 abbrev pub NoneHolds : List Ground → Type 0
 NoneHolds [] = Unit {0}
@@ -72,9 +76,16 @@ module _ {D : Type 0} (refused : Refusal → D) where
     unless-same state was same none done s r q = s r q
     unless-same state was same (some x) done s r q = same x
 
--- no refusal is no refusal
-pub none-is-none : (r : Refusal) → none ≡ some r → ⊥
-none-is-none r p = let z : _≡_ {A = ℕ} 0 1 = cc in omega arith
+    -- a call that is refused as another was: it is refused for that, and leaves the state as it was
+    module _ (told : (r : Refusal) → refusalOf (refused r) ≡ some r) where
+      pub passed-first : (o : Option Refusal) (done : D) → refusalOf done ≡ o → refusalOf (unless refused o done) ≡ o
+      passed-first none done e = e
+      passed-first (some r) done e = told r
+
+      pub passed-same : {S : Type 0} (state : D → S) (was : S) → ((r : Refusal) → state (refused r) ≡ was) → (o : Option Refusal) (done : D)
+          → refusalOf done ≡ o → (r : Refusal) → refusalOf (unless refused o done) ≡ some r → state (unless refused o done) ≡ was
+      passed-same state was same none done e r q = absurd (none-is-none r (sym e ∙ q))
+      passed-same state was same (some x) done e r q = same x
 
 some-is-some : (r s : Refusal) → some r ≡ some s → r ≡ s
 some-is-some r s p = cc

@@ -1,52 +1,23 @@
--- `Fair::open` meets its contract: each return is the case of `openOf` that its tests lead to.
-use mathlib.Core.Path.{sym, _∙_}
+-- `Fair::open` meets its contract: by the answer that the queue gave.
 use borrow.Author.Needs.{needs}
-use Rattle.fair.proofs.Calls.{open-1, open-3, open-13, open-ok}
+use Rattle.fair.proofs.Calls.{open-by}
 use Rattle.fair.proofs.Fair.open.Statement.{statement}
 use Rattle.fair.proofs.Fair.open.Tie as tie
 
+open-requires : tie.Need-open-requires
+open-requires c κs = search needs
+
+enum-told : tie.Need-enum-told
+enum-told c = search needs
+
 returns : tie.Need-returns
-returns c = open-1 (c .before .args .self) (c .before .args .flow) (c .before .args .weight) (search needs)
-
-mul-was : tie.Need-mul-was
-mul-was c = search needs
-
-array-copy-out-was : tie.Need-array-copy-out-was
-array-copy-out-was c = search needs
+returns c = let s = c .before .before .before .args in open-by (s .self) (s .flow) (s .weight) (c .before .«open» .result) (c .before .«open» .ensures) .0 (c .match .keys2)
 
 returns-2 : tie.Need-returns-2
-returns-2 c = let s = c .before .before .before .before .args in open-3 (s .self) (s .flow) (s .weight) (search needs) (c .if2 .taken)
-
-bad-weight-requires : tie.Need-bad-weight-requires
-bad-weight-requires c κs = search needs
-
-returns-3 : tie.Need-returns-3
-returns-3 c =
-    let s = c .before .before .before .before .before .before .args in
-    open-13 (s .self) (s .flow) (s .weight) (search needs) (c .before .before .if2 .left) (sym (c .before .bad-weight .ensures) ∙ c .if3 .taken)
-
-mul-flows : tie.Need-mul-flows
-mul-flows c = search needs
-
-array-set-from-flows : tie.Need-array-set-from-flows
-array-set-from-flows c = search needs
-
-returns-4 : tie.Need-returns-4
-returns-4 c =
-    let good = c .before .before .before .before .before in
-    let s = good .before .before .before .before .before .before .args in
-    open-ok (s .self) (s .flow) (s .weight) (search needs) (good .before .before .if2 .left) (sym (good .before .bad-weight .ensures) ∙ good .if3 .left)
+returns-2 c =
+    let own = c .before .before .before .before .before .before in
+    let s = own .before .before .before .args in
+    open-by (s .self) (s .flow) (s .weight) (own .before .«open» .result) (own .before .«open» .ensures) .1 (own .match .keys1)
 
 pub open-spec : {M : Type 1} → statement M
-open-spec =
-    tie.close
-    (tie.spec
-    returns
-    mul-was
-    array-copy-out-was
-    returns-2
-    bad-weight-requires
-    returns-3
-    mul-flows
-    array-set-from-flows
-    returns-4)
+open-spec = tie.close (tie.spec open-requires enum-told returns returns-2)

@@ -1,0 +1,5 @@
+pub mod Quotes
+pub mod Calls
+pub mod Cases
+pub mod Laws
+pub mod Refused

@@ -1,0 +1,11 @@
+pub mod Numbers
+pub mod Kept
+pub mod Flows
+pub mod Put
+pub mod Chosen
+pub mod Began
+pub mod Ceased
+pub mod Terms
+pub mod Good
+pub mod Account
+pub mod Moments

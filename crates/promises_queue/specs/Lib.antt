@@ -1,0 +1,4 @@
+pub mod Packets
+pub mod Notes
+pub mod Promised
+pub mod Refused
