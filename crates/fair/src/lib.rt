@@ -131,7 +131,7 @@ impl Fair {
         ensures { λ r. ⌜ r ≡ beginOf self ⌝ }
     {
         let was = self.queue;
-        let kept = queue::begin(was);
+        let kept = service::begin(was);
         let answer = kept.answer;
         let Answer::Begun(_, _, _, time) = answer else {
             return Done {
@@ -156,7 +156,7 @@ impl Fair {
         ensures { λ r. ⌜ r ≡ endOf self ⌝ }
     {
         let was = self.queue;
-        let kept = queue::end(was);
+        let kept = service::end(was);
         let answer = kept.answer;
         let Answer::Ended(_, _, _) = answer else {
             return Done {

@@ -10,8 +10,8 @@ use Rattle.places.proofs.Scan.{Found, Scanned, scanned-starts, scanned-new, sca
 use Rattle.packets.specs.Queue.{byStart, keyBy, chosenBy}
 use Rattle.tags.specs.Tags.{isHeld, freePacket}
 use Rattle.packets.proofs.Calls.{begin-8, begin-9, begin-ok}
-use Rattle.queue.proofs.serving.begin.Statement.{statement}
-use Rattle.queue.proofs.serving.begin.Tie as tie
+use Rattle.service.proofs.begin.Statement.{statement}
+use Rattle.service.proofs.begin.Tie as tie
 
 abbrev Inv-loop : tie.InvT-loop
 Inv-loop queue free packets best₀ taken₀ i₀ best taken i = (i ≤ 256) × Scanned isHeld (keyBy byStart) freePacket 256 packets best taken i

@@ -11,8 +11,8 @@ use Rattle.places.specs.Places.{firstFree, placesOf}
 use Rattle.places.proofs.Free.{scan-starts, scan-free, scan-held, scan-ends}
 use Rattle.tags.specs.Tags.{isHeld, freePacket}
 use Rattle.packets.proofs.Calls.{put-1, put-2, put-15, put-5, put-6, put-ok}
-use Rattle.queue.proofs.putting.put.Statement.{statement}
-use Rattle.queue.proofs.putting.put.Tie as tie
+use Rattle.queue.proofs.put.Statement.{statement}
+use Rattle.queue.proofs.put.Tie as tie
 
 abbrev Inv-loop : tie.InvT-loop
 Inv-loop queue flow len quote f flows was packets k₀ i₀ k i = (i ≤ 16) × (k ≡ i + firstFree isHeld (drop i (placesOf 16 f packets)))

@@ -1,7 +1,7 @@
 -- `end` meets its contract: by its one test.
 use Rattle.packets.proofs.Calls.{end-10, end-ok}
-use Rattle.queue.proofs.serving.end.Statement.{statement}
-use Rattle.queue.proofs.serving.end.Tie as tie
+use Rattle.service.proofs.end.Statement.{statement}
+use Rattle.service.proofs.end.Tie as tie
 
 returns : tie.Need-returns
 returns c = end-10 (c .before .before .before .args .queue) (c .if1 .taken)

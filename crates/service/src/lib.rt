@@ -1,4 +1,4 @@
-// Taking a packet into service, and ending it.
+// The service of a queue of packets: taking the first packet into it, and ending it.
 ghost use mathlib.Core.Path.{_≡_};
 ghost use Rattle.packets.specs.Queue.{byStart};
 ghost use Rattle.packets.specs.Calls.{beginBy, endOf};
