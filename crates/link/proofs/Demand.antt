@@ -1,7 +1,7 @@
 -- What demand is, without a division: a sum over the declarations, each of which has its burst due from its deadline on and a cell more with
 -- every whole period.
 use mathlib.Core.Path.{_≡_, refl}
-use mathlib.Core.List.{List, [], _∷_}
+use mathlib.Core.List.{[], _∷_}
 use Prim.Native.Nat.{ℕ, _+_, _-_, _*_, _<_}
 use native.Mathlib.Nat.{add-mul-div-right, div-eq-of-lt}
 use native.Mathlib.Omega.{arith}

@@ -4,18 +4,18 @@ use mathlib.Core.Path.{_≡_, refl, sym, _∙_, ap}
 use mathlib.Core.Bool.{Bool, true, false, cond, _&&_, false≢true}
 use mathlib.Core.List.{List, [], _∷_, _++_, append-assoc, append-nil}
 use mathlib.Core.Option.{none, some}
-use Prim.Native.Nat.{ℕ, _+_, _≤_, _<_, min}
+use Prim.Native.Nat.{ℕ, _+_, _<_, min}
 use native.Mathlib.Decide.{decLt}
 use native.Mathlib.Numerals.{add-one}
 use native.Mathlib.Omega.{arith}
-use borrow.Author.Tests.{eq-eqb, lt-ltb, le-ltb, eqb-true, eqb-false}
-use lib.Dec.{eqb, ltb}
-use lib.ListN.{length, take, set, length-append, length-set}
+use borrow.Author.Tests.{lt-ltb, le-ltb, eqb-true, eqb-false}
+use lib.Dec.{eqb}
+use lib.ListN.{length, take, length-append, length-set}
 use lib.Seq.{take-all, take-suc-set, take-append-le, length-take-le}
 use Rattle.link.specs.declared.Declaration.{Declaration}
 use Rattle.units.specs.declared.Refusal.the-variants.{NoCommand}
 use Rattle.link.specs.declared.Verdict.the-variants.{Refused}
-use Rattle.link.specs.Verdicts.{judgedOf, admitOf}
+use Rattle.link.specs.Verdicts.{admitOf}
 use Rattle.text.specs.Reading.{blank}
 use Rattle.text.specs.Lines.{lineFeed}
 use Rattle.text.specs.Input.{onto, linesOf, joined}
@@ -23,10 +23,10 @@ use Rattle.text.specs.Feeding.{Step, fedBy}
 use Rattle.text.proofs.Input.{begun, begun-more, begun-ended}
 use Rattle.text.proofs.Feeding.{as-one, takes-on-by}
 use Rattle.lists.specs.declared.Reading.{Reading}
-use Rattle.lists.specs.Reading.{takesOf, wholeAt, declared, Line, freshLine, lineStep, lineFrom, heardAs, readList}
+use Rattle.lists.specs.Reading.{wholeAt, declared, Line, freshLine, lineStep, lineFrom, heardAs}
 use Rattle.lists.specs.Printing.{longest, verdictLine}
 use Rattle.lists.specs.Whole.{verdictOf, answerOf, answersOf}
-use Rattle.lists.specs.Steps.{freshReading, putOf, filledOf, keepingOf, keptBy, judgedBy, stepOf, finishOf}
+use Rattle.lists.specs.Steps.{freshReading, putOf, keepingOf, keptBy, judgedBy, stepOf, finishOf}
 use Rattle.lists.specs.Laws.{FedInPieces, TakesOn}
 use Rattle.lists.proofs.Hands.{chosen, passed-over}
 use Rattle.lists.proofs.Heard.{from-append}

@@ -1,11 +1,11 @@
 -- Feeding a line's bytes and its end, as steps.
 use mathlib.Core.Path.{_≡_, refl, sym, _∙_, ap}
-use mathlib.Core.Bool.{Bool, true, false}
-use mathlib.Core.List.{List, [], _∷_, _++_}
+use mathlib.Core.Bool.{true, false}
+use mathlib.Core.List.{List, [], _∷_}
 use Prim.Native.Nat.{ℕ, _≤_}
 use native.Mathlib.Omega.{arith}
 use borrow.Author.Tests.{eq-eqb, ne-eqb}
-use lib.ListN.{length, drop}
+use lib.ListN.{length}
 use Rattle.text.specs.Lines.{lineFeed, Printed}
 use Rattle.text.specs.Feeding.{Step, FeedsBy}
 use Rattle.text.proofs.Feeding.{Going, feed-one}

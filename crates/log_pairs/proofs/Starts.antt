@@ -17,7 +17,6 @@ use Rattle.log.specs.Reading.{Reading, Good, Bad, openingsAt, logAt, readOf, ve
 use Rattle.log.specs.Pairs.{sameOpenings, sameStart, comparable}
 use Rattle.log.proofs.Back.{openings-many}
 use Rattle.log.proofs.Held.{Held, held}
-use Rattle.log_pairs.specs.declared.Common.{Common}
 use Rattle.log_pairs.specs.declared.Common.the-variants.{Start, Not}
 use Rattle.log_pairs.specs.Common.{commonOf}
 use Rattle.log_pairs.proofs.Differ.{sameLeft}

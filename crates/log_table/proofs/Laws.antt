@@ -7,7 +7,6 @@ use Prim.Native.Nat.{ℕ, _+_, _≤_, _<_}
 use borrow.Author.Tests.{lt-ltb, le-ltb}
 use lib.Dec.{ltb, eqb}
 use lib.ListN.{length}
-use Rattle.log.specs.declared.Fault.{Fault}
 use Rattle.log.specs.declared.Fault.the-variants.{FirstByte, EndsEarly}
 use Rattle.log.specs.Faults.{byteAt, fourAt, urgentLength, fairLength, eventLength}
 use Rattle.log.specs.Reading.{Part, isFirst, firstPart, field, tableParts, badOpeningLength, badEventLength, firstFault}

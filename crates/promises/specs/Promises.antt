@@ -1,7 +1,7 @@
 -- The promises, each a field of one record, over every list of calls from a fresh station unless it says otherwise.
 use mathlib.Core.Path.{_≡_}
 use mathlib.Core.Bool.{Bool, not}
-use mathlib.Core.List.{List, [], _∷_, _++_, map}
+use mathlib.Core.List.{List, [], _∷_, _++_}
 use mathlib.Core.Option.{none}
 use Prim.Native.Nat.{ℕ, _+_, _%_, _≤_, _<_}
 use Rattle.units.specs.Refusals.{Ground, numberOf, firstOf}

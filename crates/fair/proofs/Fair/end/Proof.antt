@@ -1,5 +1,5 @@
 -- `Fair::end` meets its contract: by the answer that the queue gave, and by whether any packet waits.
-use mathlib.Core.Path.{_≡_, sym, _∙_}
+use mathlib.Core.Path.{sym, _∙_}
 use mathlib.Core.Logic.{⊎-elim}
 use native.Mathlib.Omega.{arith}
 use borrow.Author.Needs.{needs}

@@ -1,8 +1,7 @@
 -- `spell` meets its contract. The invariant: the i digits still to be put, in the bytes as they are, give what all k give. The measure is
 -- the digits left.
-use mathlib.Core.Path.{_≡_, refl, sym, _∙_}
+use mathlib.Core.Path.{_≡_, refl, _∙_}
 use Prim.Native.Nat.{_≤_}
-use native.Mathlib.Omega.{arith}
 use borrow.Author.Needs.{needs}
 use lib.ListN.{length, length-set}
 use Rattle.text.specs.Decimal.{speltAt}

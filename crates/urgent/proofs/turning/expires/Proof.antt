@@ -1,8 +1,5 @@
 -- `expires` meets its contract: a held place is judged by its last slot, a free one never expires.
-use mathlib.Core.Path.{sym, ap, _∙_}
-use mathlib.Core.Bool.{Bool, _&&_}
 use borrow.Author.Needs.{needs}
-use lib.Dec.{eqb}
 use Rattle.urgent.proofs.turning.expires.Statement.{statement}
 use Rattle.urgent.proofs.turning.expires.Tie as tie
 
