@@ -6,7 +6,7 @@ use Rattle.units.specs.declared.Tag.{Tag}
 use Rattle.units.proofs.Refusals.{passed-first, passed-same}
 use Rattle.packets.specs.declared.Flows.{Flows}
 use Rattle.packets.specs.declared.Kept.{Kept}
-use Rattle.packets.specs.Answers.{refusalIn, startIn}
+use Rattle.packets.specs.Answers.{refusalIn, startTold}
 use Rattle.packets.specs.Queue.{flowAt, byStart}
 use Rattle.packets.specs.Quotes.{quoteOf}
 use Rattle.packets.specs.Calls.{openOf as openIn, closeOf as closeIn, beginBy, endOf as endIn}
@@ -40,7 +40,7 @@ module _ (u : Fair) where
             ∙ q .putting flow length (quoteOf (flowAt (u .queue) flow) (u .time) length)
             ∙ quoted-first (u .queue) flow (u .time) length;
         beginning =
-            first (startIn (u .time) (beginBy byStart (u .queue) .answer)) (u .largest) (beginBy byStart (u .queue)) ∙ q .beginning byStart;
+            first (startTold (u .time) (beginBy byStart (u .queue) .answer)) (u .largest) (beginBy byStart (u .queue)) ∙ q .beginning byStart;
         ending = first (timeLeft u) (largestEnded u) (endIn (u .queue)) ∙ q .ending;
       }
 
@@ -58,6 +58,6 @@ module _ (u : Fair) where
         opening = λ flow weight. flows-same (openIn (u .queue) flow weight) r;
         closing = λ flow. flows-same (closeIn (u .queue) flow) r;
         offering = λ flow length. same (u .time) (u .largest) (stamped u flow length) r;
-        beginning = same (startIn (u .time) (beginBy byStart (u .queue) .answer)) (u .largest) (beginBy byStart (u .queue)) r;
+        beginning = same (startTold (u .time) (beginBy byStart (u .queue) .answer)) (u .largest) (beginBy byStart (u .queue)) r;
         ending = same (timeLeft u) (largestEnded u) (endIn (u .queue)) r;
       }

@@ -8,7 +8,7 @@ use Rattle.units.specs.declared.Tag.{Tag}
 use Rattle.packets.specs.declared.Flows.{Flows}
 use Rattle.packets.specs.declared.Kept.{Kept}
 use Rattle.packets.specs.declared.Answer.the-variants.{Refused}
-use Rattle.packets.specs.Answers.{refusalIn, startIn}
+use Rattle.packets.specs.Answers.{refusalIn, startTold}
 use Rattle.packets.specs.Queue.{flowAt, waiting, byStart}
 use Rattle.packets.specs.Quotes.{quoteOf}
 use Rattle.packets.specs.Calls.{queueWith, openOf as openIn, closeOf as closeIn, putOf, beginBy, endOf as endIn}
@@ -53,7 +53,7 @@ offerOf u flow length = byQueue u (u .time) (u .largest) (stamped u flow length)
 
 -- begin: virtual time becomes the start tag of the packet that goes into service
 abbrev pub begun : Fair → Kept → Done
-begun u d = byQueue u (startIn (u .time) (d .answer)) (u .largest) d
+begun u d = byQueue u (startTold (u .time) (d .answer)) (u .largest) d
 
 -- what begin gives
 unfoldable pub beginOf : Fair → Done

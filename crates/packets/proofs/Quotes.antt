@@ -38,7 +38,7 @@ module _ (was : Flow) (time : Tag) (length : ℕ) (good : badLength length ≡ f
   finish : ℕ
   finish = finishAt (startAfter was time) length (was .weight)
 
-  pub unfit : not (quoteOf was time length .fits)
+  unfit : not (quoteOf was time length .fits)
       ≡ (ltb tagLimit (finishAt (startAfter was time) length (was .weight)) || ltb tagLimit (was .next))
   unfolding quoteOf finishOf finish
   unfit = rw good (go (ltb tagLimit (was .next)) (ltb tagLimit finish))

@@ -1,4 +1,4 @@
--- A call is refused exactly for the first of its grounds that holds, and then leaves the queue as it was.
+-- A call is refused exactly for the first of its grounds that holds.
 use mathlib.Core.Path.{_≡_, refl}
 use mathlib.Core.Bool.{Bool, true, false, cond}
 use mathlib.Core.Option.{Option, none, some}
@@ -6,7 +6,7 @@ use borrow.Author.Tests.{eq-eqb}
 use Rattle.units.specs.Refusals.{firstOf, unless}
 use Rattle.units.specs.declared.Refusal.{Refusal}
 use Rattle.units.specs.declared.Refusal.the-variants.{PacketInService, NothingWaits}
-use Rattle.units.proofs.Refusals.{unless-first, unless-same, none-is-none}
+use Rattle.units.proofs.Refusals.{unless-first}
 use Rattle.places.specs.Choice.{Choice, nothing, at}
 use Rattle.places.proofs.Least.{none-held}
 use Rattle.tags.specs.declared.Packet.{Packet}
@@ -18,7 +18,7 @@ use Rattle.packets.specs.declared.Kept.{Kept}
 use Rattle.packets.specs.Queue.{flowAt, waitingOf, waiting, busyWith, Rank, keyBy, chosenBy, beginGrounds, endGrounds}
 use Rattle.packets.specs.Calls.{refusedFlows, refused, opened, openOf, closed, closeOf, placed, putGrounds, putOf, begun, beginBy, ended, endOf}
 use Rattle.packets.specs.Answers.{refusalIn}
-use Rattle.packets.specs.Laws.{RefusedFirst, RefusedSame}
+use Rattle.packets.specs.Laws.{RefusedFirst}
 
 module _ (q : Queue) where
   flows-first : (o : Option Refusal) (d : Flows) → refusalIn (d .answer) ≡ none → refusalIn (unless (refusedFlows q) o d .answer) ≡ o
@@ -49,30 +49,4 @@ module _ (q : Queue) where
         putting = λ flow length quote. first (firstOf (putGrounds q flow length quote)) (placed q flow length quote) refl;
         beginning = λ rank. begin-first rank (chosenBy rank q) refl;
         ending = first (firstOf (endGrounds q)) (ended q) refl;
-      }
-
-  flows-same : (o : Option Refusal) (d : Flows) → refusalIn (d .answer) ≡ none → (r : Refusal)
-      → refusalIn (unless (refusedFlows q) o d .answer) ≡ some r → unless (refusedFlows q) o d .flows ≡ q .flows
-  flows-same o d n =
-      unless-same (refusedFlows q) (λ (d : Flows). refusalIn (d .answer)) (λ (d : Flows). d .flows) (q .flows) (λ r. refl) o d
-      (λ r e. absurd (none-is-none r (rw n at e)))
-
-  same : (o : Option Refusal) (d : Kept) → ((r : Refusal) → refusalIn (d .answer) ≡ some r → d .queue ≡ q) → (r : Refusal)
-      → refusalIn (unless (refused q) o d .answer) ≡ some r → unless (refused q) o d .queue ≡ q
-  same = unless-same (refused q) (λ (d : Kept). refusalIn (d .answer)) (λ (d : Kept). d .queue) q (λ r. refl)
-
-  begun-same : (x : Choice Packet) (r : Refusal) → refusalIn (begun q x .answer) ≡ some r → begun q x .queue ≡ q
-  begun-same nothing r e = refl
-  begun-same (at place p) r e = absurd (none-is-none r e)
-
-  pub refused-same : (r : Refusal) → RefusedSame q r
-  unfolding openOf closeOf putOf beginBy endOf
-  refused-same r =
-      record {
-        opening = λ flow weight. flows-same (firstOf (openingGrounds flow weight (flowAt q flow))) (opened q flow weight) refl r;
-        closing = λ flow. flows-same (firstOf (closingGrounds flow (flowAt q flow) (waitingOf q flow) (busyWith (q .service) flow))) (closed q flow) refl r;
-        putting = λ flow length quote.
-            same (firstOf (putGrounds q flow length quote)) (placed q flow length quote) (λ x e. absurd (none-is-none x e)) r;
-        beginning = λ rank. same (firstOf (beginGrounds q)) (begun q (chosenBy rank q)) (begun-same (chosenBy rank q)) r;
-        ending = same (firstOf (endGrounds q)) (ended q) (λ x e. absurd (none-is-none x e)) r;
       }

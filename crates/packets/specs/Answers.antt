@@ -25,10 +25,10 @@ refusalIn (Begun flow number length start) = none
 refusalIn (Ended flow number length) = none
 
 -- the start tag that a begin is answered; of any other answer, the tag given
-abbrev pub startIn : Tag → Answer → Tag
-startIn time (Begun flow number length start) = start
-startIn time (Refused r) = time
-startIn time Opened = time
-startIn time Closed = time
-startIn time (Accepted number start finish) = time
-startIn time (Ended flow number length) = time
+abbrev pub startTold : Tag → Answer → Tag
+startTold time (Begun flow number length start) = start
+startTold time (Refused r) = time
+startTold time Opened = time
+startTold time Closed = time
+startTold time (Accepted number start finish) = time
+startTold time (Ended flow number length) = time

@@ -1,12 +1,10 @@
 -- What holds of a queue's definitions in every state.
 use mathlib.Core.Path.{_≡_}
 use mathlib.Core.Bool.{true, false}
-use mathlib.Core.Option.{some}
 use Prim.Native.Nat.{ℕ, _<_}
 use lib.ListN.{length}
 use Rattle.units.specs.Limits.{placeCount}
 use Rattle.units.specs.Refusals.{firstOf}
-use Rattle.units.specs.declared.Refusal.{Refusal}
 use Rattle.units.specs.declared.Tag.{Tag}
 use Rattle.places.specs.Places.{flowOf}
 use Rattle.places.specs.Choice.{at, comesBefore}
@@ -49,12 +47,3 @@ pub record RefusedFirst (q : Queue) : Type 0 where
   pub putting : (flow length : ℕ) (quote : Quote) → refusalIn (putOf q flow length quote .answer) ≡ firstOf (putGrounds q flow length quote)
   pub beginning : (rank : Rank) → refusalIn (beginBy rank q .answer) ≡ firstOf (beginGrounds q)
   pub ending : refusalIn (endOf q .answer) ≡ firstOf (endGrounds q)
-
--- A refused call leaves the queue as it was.
-pub record RefusedSame (q : Queue) (r : Refusal) : Type 0 where
-  pub opening : (flow weight : ℕ) → refusalIn (openOf q flow weight .answer) ≡ some r → openOf q flow weight .flows ≡ q .flows
-  pub closing : (flow : ℕ) → refusalIn (closeOf q flow .answer) ≡ some r → closeOf q flow .flows ≡ q .flows
-  pub putting :
-      (flow length : ℕ) (quote : Quote) → refusalIn (putOf q flow length quote .answer) ≡ some r → putOf q flow length quote .queue ≡ q
-  pub beginning : (rank : Rank) → refusalIn (beginBy rank q .answer) ≡ some r → beginBy rank q .queue ≡ q
-  pub ending : refusalIn (endOf q .answer) ≡ some r → endOf q .queue ≡ q

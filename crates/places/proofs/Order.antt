@@ -34,7 +34,7 @@ module _ (a b : Key) where
         simp (le-ltb (a .rank) (b .rank) r, eq-eqb (a .rank) (b .rank) (omega arith), le-ltb (a .flow) (b .flow) f, eq-eqb (a .flow) (b .flow) (omega arith))
 
 -- the order as a statement
-pub Before : Key → Key → Type 0
+unfoldable pub Before : Key → Key → Type 0
 Before a b =
     (a .rank < b .rank)
     ⊎ ((a .rank ≡ b .rank) × (a .flow < b .flow))

@@ -1,3 +1,4 @@
+pub mod Order
 pub mod Run
 pub mod Bytes
 pub mod Sessions

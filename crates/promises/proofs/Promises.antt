@@ -18,6 +18,7 @@ use Rattle.promises_fair.proofs.Account.{begins-first, served-in-order, ends-la
 use Rattle.promises_fair.proofs.Account.{offer-told as packet-told}
 use Rattle.promises.specs.Run.{fresh, run}
 use Rattle.promises.specs.Promises.{Promises}
+use Rattle.promises.proofs.Order.{order-said}
 use Rattle.promises.proofs.Run.{run-on, good-run, fair-run, time-run, refused-as-noted, urgent-only, fair-only}
 use Rattle.promises.proofs.Bytes.{decimals-spelled, lines-cut}
 use Rattle.promises.proofs.Sessions.{calls-answered, others-answered}
@@ -45,6 +46,7 @@ promises =
           let g = good-run calls in
           record { conserved = conserved (r .station .urgent) (r .cells) (g .kept); missedAddUp = g .missed; cellForCell = g .kept .tied };
       U2 = λ calls. sends-earliest (run calls .station .urgent) (run calls .cells) (good-run calls .kept);
+      U2-ties = order-said;
       U3 = λ calls. cell-told (run calls .station .urgent) (run calls .cells) (good-run calls .kept);
       U3-numbers = λ calls. good-run calls .kept .numbered;
       U3-windows = λ calls. good-run calls .kept .windowed;

@@ -25,6 +25,7 @@ use Rattle.station.specs.Laws.{RefusedFirst, NumberTold, GroundsInOrder, Refuse
 use Rattle.lines.specs.Reading.{ReadsOneText}
 use Rattle.session.specs.Laws.{FedInPieces, TakesOn}
 use Rattle.promises.specs.Numbers.{RefusalsNumbered, LimitsSaid}
+use Rattle.promises.specs.Order.{OrderSaid}
 use Rattle.promises.specs.Bytes.{DecimalsSpelled, LinesCut}
 use Rattle.promises.specs.Sessions.{CallsAnswered, OthersAnswered}
 use Rattle.promises.specs.Texts.{CommandsSpelled, RepliesSpelled}
@@ -75,6 +76,8 @@ pub record Promises : Type 0 where
   -- U2: of the cells that wait, an open turn sends the one whose last slot comes first, ties to the lowest flow and then the lowest number;
   -- that no other cell leaves by sending is U1 after the turn
   pub U2 : (calls : List Call) → onUrgent (Earliest (run calls .cells)) (replyTo calls OpenTurn)
+  -- and what comes before what is just that, here by last slot and in F2 by start tag
+  pub U2-ties : OrderSaid
   -- U3: an accepted cell is told how many of its flow were accepted before it, and the last slot of its window by its own deadline; no number wraps
   pub U3 :
       (calls : List Call) (flow deadline : ℕ) → refusalIn (replyTo calls (OfferCell flow deadline)) ≡ none

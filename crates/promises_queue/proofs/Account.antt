@@ -15,10 +15,8 @@ use Rattle.tags.specs.declared.Packet.{Packet as Place}
 use Rattle.tags.specs.Tags.{freePacket, isHeld}
 use Rattle.tags.specs.Grounds.{waitingGrounds}
 use Rattle.packets.specs.declared.Queue.{Queue}
-use Rattle.packets.specs.declared.Kept.{Kept}
 use Rattle.packets.specs.Queue.{flowAt, waitingOf, Rank, chosenBy}
-use Rattle.packets.specs.Calls.{begun, beginBy, ended, endOf}
-use Rattle.packets.proofs.Cases.{begin-cases, end-cases}
+use Rattle.packets.specs.Calls.{begun, ended}
 use Rattle.packets.proofs.Refused.{refused-first}
 use Rattle.promises_queue.specs.Packets.{Packets, waits}
 use Rattle.promises_queue.specs.Promised.{FirstBy, PlacesInOrder, LastBegun}
@@ -44,10 +42,6 @@ module _ {q : Queue} {h : Packets} (g : QueueGood q h) where
       (it-is-first isHeld placeFacts packetFacts (factsKey rank) freePacket (q .packets) (h .accepted) (waits h) (packets-tied (g .kept)) place p
       (lead (g .kept) place p rank e) alike alike-self alike-told)
 
-  -- so a begin takes the packet that goes first, whatever the rank
-  pub begins-first : (rank : Rank) → FirstBy rank h (beginBy rank q .answer)
-  begins-first rank = begin-cases q (λ (d : Kept). FirstBy rank h (d .answer)) (λ r. tt) rank (λ b place p e. chosen-first rank place p e)
-
   -- places and begins are in order
   pub places-in-order : PlacesInOrder q h
   places-in-order = record { inOrder = g .ordered .inOrder; packetForPacket = g .kept .tied }
@@ -55,10 +49,6 @@ module _ {q : Queue} {h : Packets} (g : QueueGood q h) where
   -- the packet in service is the one last begun
   pub served-last : q .service .busy ≡ true → LastBegun (h .moments) (ended q .answer)
   served-last b = last-begun (q .service) (h .accepted) (h .moments) b (g .kept .service)
-
-  -- so an end answers that packet
-  pub ends-last : LastBegun (h .moments) (endOf q .answer)
-  ends-last = end-cases q (λ (d : Kept). LastBegun (h .moments) (d .answer)) (λ r. tt) served-last
 
   -- what refuses an offer without a tag is noted; a lane has its own ground about tags, and says how that is noted
   pub offer-noted : (flow length : ℕ) (ground noted : Ground) → (flow ≤ 15 → ground ≡ noted)

@@ -71,7 +71,7 @@ abbrev pub AtPlace : ℕ → Place → Packet → Type 0
 AtPlace place p = IsThis (placeFlow place) (p .number) (p .length) (p .start .0) (p .finish .0)
 
 -- and it waits
-abbrev pub WaitsAt : List Moment → ℕ → Place → Packet → Type 0
+abbrev WaitsAt : List Moment → ℕ → Place → Packet → Type 0
 WaitsAt ms place p a = (notBegun ms a ≡ true) × AtPlace place p a
 
 -- an accepted packet that is the same as the one at a place is that one
@@ -100,7 +100,7 @@ module _ {q : Queue} {marks : List Mark} {ps : List Packet} {ms : List Moment} (
         some-asked isHeld placeFacts packetFacts freePacket (q .packets) ps (notBegun ms) (packets-tied k) place p (held .0) (held .1) (held .2) (asking ask)
 
     -- it is one of the accepted packets, and waits
-    pub held-waits : Some (WaitsAt ms place p) ps
+    held-waits : Some (WaitsAt ms place p) ps
     held-waits =
         some-map (λ (a : Packet). (alike (packetFacts a) (placeFacts place p) && notBegun ms a) ≡ true) (WaitsAt ms place p)
         (λ a t.
@@ -139,7 +139,7 @@ module _ {q : Queue} {marks : List Mark} {ps : List Packet} {ms : List Moment} (
     before f n l s x = comesBefore (record { rank = rank s x; flow = f; number = n }) (keyBy rank place p)
 
     -- no waiting packet comes before it
-    pub not-before : asked ps ms before ≡ 0
+    not-before : asked ps ms before ≡ 0
     not-before = none-before isHeld placeFacts packetFacts (factsKey rank) freePacket (q .packets) ps (notBegun ms) (packets-tied k) place p lead
 
     -- no waiting packet ranks earlier

@@ -18,7 +18,7 @@ use Rattle.packets.specs.declared.Quote.{Quote}
 use Rattle.packets.specs.Queue.{freshQueue, flowAt, waitingOf, busyWith}
 use Rattle.packets.specs.Calls.{queueWith, opened, closed, placed, begun, ended}
 use Rattle.promises_queue.specs.Packets.{Packets, noPackets}
-use Rattle.promises_queue.specs.Notes.{noteOther, marked, noteOffer, noteService}
+use Rattle.promises_queue.specs.Notes.{marked, noteOffer, noteService}
 use Rattle.promises_queue.specs.Promised.{holds, begunOf, TermsStand}
 use Rattle.promises_queue.proofs.Kept.{QueueKept, Ordered, serving-told, waiting-told}
 use Rattle.promises_queue.proofs.Flows.{kept-open, kept-close}
@@ -55,10 +55,6 @@ queue-fresh =
     }
 
 module _ {q : Queue} {h : Packets} (g : QueueGood q h) where
-  -- a call of another lane, or a refused one, is counted
-  pub queue-other : QueueGood q (noteOther h)
-  queue-other = record { kept = g .kept; ordered = g .ordered; terms = g .terms }
-
   -- a flow is opened
   pub queue-open : (flow weight : ℕ) → flow ≤ 15 → flowAt q flow .opened ≡ false → badWeight weight ≡ false
       → QueueGood (queueWith q (opened q flow weight)) (marked h (opens flow weight))

@@ -10,7 +10,7 @@ use tags::Packet;
 use units::LAST_FLOW;
 use units::Refusal;
 
-// Puts a packet of a flow, of this length in bytes, in the flow's first free place, with the tags that it queue quoted.
+// Puts a packet of a flow, of this length in bytes, in the flow's first free place, with the tags that it was quoted.
 pub fn put(queue: Queue, flow: u64, length: u64, quote: Quote) -> Kept
     ensures { λ r. ⌜ r ≡ putOf queue flow length quote ⌝ }
 {
