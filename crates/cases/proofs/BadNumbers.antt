@@ -1,6 +1,5 @@
--- The bad numbers: the definitions compute, for the session once its numbers are in digits.
+-- The bad numbers: the definitions compute.
 use mathlib.Core.Path.{refl}
-use native.Mathlib.Omega.{arith}
 use Rattle.units.specs.Refusals.{firstOf}
 use Rattle.places.specs.Places.{count, firstFree}
 use Rattle.link.specs.Verdicts.{byNumbers}
@@ -11,21 +10,19 @@ use Rattle.packets.specs.Calls.{openOf as openIn, putOf}
 use Rattle.fair.specs.Calls.{openOf, offerOf}
 use Rattle.station.specs.Calls.{callOf}
 use Rattle.text.specs.Reading.{readOn}
-use Rattle.text.proofs.Decimal.{decimal-digit}
 use Rattle.text.specs.Input.{linesOf}
+use Rattle.text.specs.Decimal.{decimalWithin, decimalOf}
 use Rattle.text.specs.Spelled.{bytesOf}
 use Rattle.session.specs.Whole.{answersOf}
 use Rattle.cases.specs.Table.{toldBy}
 use Rattle.cases.specs.BadNumbers.{BadNumbers}
-use Rattle.cases.proofs.Worked.{teen}
 
 pub bad-numbers : BadNumbers
-unfolding toldBy bytesOf linesOf answersOf readOn callOf openUrgentOf openOf openIn offerOf putOf quoteOf finishOf firstOf byNumbers count firstFree
+unfolding toldBy bytesOf linesOf answersOf readOn callOf openUrgentOf openOf openIn offerOf putOf quoteOf finishOf firstOf byNumbers count firstFree decimalOf decimalWithin
 bad-numbers =
     record {
       deadlines = refl;
       weights = refl;
       lists = refl;
-      session =
-          rw (decimal-digit 2 (omega arith), decimal-digit 3 (omega arith), teen 3 (omega arith), teen 4 (omega arith), teen 5 (omega arith));
+      session = refl;
     }

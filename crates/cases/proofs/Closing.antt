@@ -1,6 +1,5 @@
--- The closings: the definitions compute, for the session once its numbers are in digits.
+-- The closings: the definitions compute.
 use mathlib.Core.Path.{refl}
-use native.Mathlib.Omega.{arith}
 use Rattle.units.specs.Refusals.{firstOf}
 use Rattle.places.specs.Places.{count, firstFree}
 use Rattle.places.specs.Choice.{comesBefore, better, least}
@@ -14,19 +13,18 @@ use Rattle.packets.specs.Calls.{openOf as openIn, closeOf as closeIn, putOf, be
 use Rattle.fair.specs.Calls.{openOf, closeOf, offerOf, beginOf, endOf}
 use Rattle.station.specs.Calls.{callOf}
 use Rattle.text.specs.Reading.{readOn}
-use Rattle.text.proofs.Decimal.{decimal-digit}
 use Rattle.text.specs.Input.{linesOf}
+use Rattle.text.specs.Decimal.{decimalWithin, decimalOf}
 use Rattle.text.specs.Spelled.{bytesOf}
 use Rattle.session.specs.Whole.{answersOf}
 use Rattle.cases.specs.Table.{toldBy}
 use Rattle.cases.specs.Closing.{Closings}
-use Rattle.cases.proofs.Worked.{teen}
 
 pub closings : Closings
-unfolding toldBy bytesOf linesOf answersOf readOn callOf openUrgentOf closeUrgentOf offerCellOf turnOf openOf openIn closeOf closeIn offerOf putOf quoteOf finishOf beginOf beginBy endOf endIn firstOf count firstFree comesBefore better least
+unfolding toldBy bytesOf linesOf answersOf readOn callOf openUrgentOf closeUrgentOf offerCellOf turnOf openOf openIn closeOf closeIn offerOf putOf quoteOf finishOf beginOf beginBy endOf endIn firstOf count firstFree comesBefore better least decimalOf decimalWithin
 closings =
     record {
       urgent = refl;
       fair = refl;
-      session = rw (decimal-digit 0 (omega arith), decimal-digit 1 (omega arith), decimal-digit 2 (omega arith), teen 2 (omega arith));
+      session = refl;
     }

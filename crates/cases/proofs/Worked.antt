@@ -23,12 +23,8 @@ use Rattle.session.specs.Whole.{answersOf}
 use Rattle.cases.specs.Worked.{Worked}
 
 -- one digit more at the end of a number's text
-pub longer : (a d : ℕ) {digits : List ℕ} → 1 ≤ a → d < 10 → decimalOf a ≡ digits → decimalOf (a * 10 + d) ≡ digits ++ (48 + d) ∷ []
+longer : (a d : ℕ) {digits : List ℕ} → 1 ≤ a → d < 10 → decimalOf a ≡ digits → decimalOf (a * 10 + d) ≡ digits ++ (48 + d) ∷ []
 longer a d h l e = decimal-snoc a d h l ∙ ap (λ (t : List ℕ). t ++ (48 + d) ∷ []) e
-
--- a number from 10 to 19 in digits
-pub teen : (d : ℕ) → d < 10 → decimalOf (10 + d) ≡ 49 ∷ (48 + d) ∷ []
-teen d l = longer 1 d (omega arith) l (decimal-digit 1 (omega arith))
 
 -- the finish tag of 100 bytes at weight 1
 tag : decimalOf 72072000 ≡ bytesOf "72072000"

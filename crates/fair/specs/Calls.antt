@@ -20,18 +20,20 @@ use Rattle.fair.specs.Lane.{largestEnded}
 abbrev pub refused : Fair → Refusal → Done
 refused u r = record { lane = u; answer = Refused r }
 
--- a call that gave other flows
+-- the lane with the flows that the queue gave, and its answer
 abbrev pub withFlows : Fair → Flows → Done
 withFlows u d =
     record { lane = record { time = u .time; largest = u .largest; queue = queueWith (u .queue) d }; answer = d .answer }
 
+-- what a call gives that can change the flows alone
 abbrev pub byFlows : Fair → Flows → Done
 byFlows u d = unless (refused u) (refusalIn (d .answer)) (withFlows u d)
 
--- a call that gave another queue, after which virtual time and the largest finish tag of all packets ended are these
+-- the lane with the queue that a call gave, at this virtual time and with this largest finish tag of all packets ended, and the answer
 abbrev pub withQueue : Tag → Tag → Kept → Done
 withQueue time largest d = record { lane = record { time = time; largest = largest; queue = d .queue }; answer = d .answer }
 
+-- what a call gives that can change the queue; these times are those after it, where it is not refused
 abbrev pub byQueue : Fair → Tag → Tag → Kept → Done
 byQueue u time largest d = unless (refused u) (refusalIn (d .answer)) (withQueue time largest d)
 

@@ -19,7 +19,7 @@ pub fn goes_first(p: Packet, k: usize, b: Packet, j: usize) -> bool
 }
 
 // Whether the waiting packet p at place k goes before the waiting packet b at place j.
-pub fn goes_before(p: Packet, k: usize, b: Packet, j: usize) -> bool
+fn goes_before(p: Packet, k: usize, b: Packet, j: usize) -> bool
     ensures { λ r. ⌜ r ≡ comesBefore (keyBy byStart k p) (keyBy byStart j b) ⌝ }
 {
     if tags::earlier(p.start, b.start) {

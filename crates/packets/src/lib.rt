@@ -4,7 +4,6 @@ mod quoting;
 
 ghost use mathlib.Core.Path.{_≡_};
 ghost use Rattle.packets.specs.Queue.{freshQueue, flowAt, waiting, busyWith};
-pub use choosing::goes_before;
 pub use choosing::goes_first;
 pub use quoting::quote_of;
 use tags::Flow;
