@@ -48,6 +48,7 @@ busyWith v flow = v .busy && eqb (v .flow) flow
 abbrev pub Rank : Type 0
 Rank = (start finish : ℕ) → ℕ
 
+-- by start tag
 abbrev pub byStart : Rank
 byStart start finish = start
 
