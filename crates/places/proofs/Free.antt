@@ -75,7 +75,7 @@ module _ {A : Type 0} (held : A → Bool) (d : A) (all : List A) (b n : ℕ) (fi
     part-room f = omega (arith, part-length, free-left held part (omega (arith, part-length)))
 
   -- the part's places are those from b on
-  part-at : (i : ℕ) → i < n → getD part i d ≡ getD all (b + i) d
+  pub part-at : (i : ℕ) → i < n → getD part i d ≡ getD all (b + i) d
   part-at i h = getD-take n (drop b all) i d h ∙ getD-drop b all i d
 
   -- each step of a tally, and what it comes to

@@ -15,3 +15,4 @@ pub mod Waiting
 pub mod Leading
 pub mod Coming
 pub mod Leaving
+pub mod Mapped

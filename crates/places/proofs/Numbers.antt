@@ -1,12 +1,16 @@
--- Numbers of a flow are below the count of its records, so that no two records of a flow have one number.
+-- Numbers of a flow are below the count of its records, so that no two records of a flow have one number, and each number below it
+-- is one's.
 use mathlib.Core.Path.{_≡_, refl, subst}
+use mathlib.Core.Logic.{inl, inr}
 use mathlib.Core.Bool.{Bool, true, false}
 use mathlib.Core.List.{List, [], _∷_}
-use Prim.Native.Nat.{ℕ, _+_, _≤_, zero-le}
+use Prim.Native.Nat.{ℕ, _+_, _≤_, _<_, zero-le}
+use native.Mathlib.Decide.{ℕ-discrete}
 use native.Mathlib.Omega.{arith}
 use borrow.Author.Tests.{eqb-true, eq-eqb}
 use lib.Dec.{eqb}
 use Rattle.places.specs.Places.{bit, count}
+use Rattle.places.specs.Members.{Some}
 use Rattle.places.specs.Numbers.{ofFlow, isThis, Numbered}
 use Rattle.places.proofs.Tests.{and-told}
 
@@ -49,3 +53,19 @@ module _ {A : Type 0} (flow number : A → ℕ) where
           let e = is-this f n a p in
           omega (arith, none-above f n rest (k .1) (omega (arith, e .1, head-number f a rest k (e .0))))
       go false p r = omega arith
+
+  -- every number below the count is that of some record of the flow
+  pub some-below : (f n : ℕ) (xs : List A) → Numbered flow number xs → n < ofFlow flow f xs → Some (λ (a : A). (flow a ≡ f) × (number a ≡ n)) xs
+  unfolding count
+  some-below f n [] k l = absurd (omega arith)
+  some-below f n (a ∷ rest) k l = go (eqb (flow a) f) refl l (some-below f n rest (k .1))
+    where
+      go : (t : Bool) → eqb (flow a) f ≡ t → n < bit t + ofFlow flow f rest
+          → (n < ofFlow flow f rest → Some (λ (b : A). (flow b ≡ f) × (number b ≡ n)) rest)
+          → Some (λ (b : A). (flow b ≡ f) × (number b ≡ n)) (a ∷ rest)
+      go true p m i = this (eqb-true (flow a) f p) (ℕ-discrete (number a) n)
+        where
+          this : flow a ≡ f → Dec (number a ≡ n) → Some (λ (b : A). (flow b ≡ f) × (number b ≡ n)) (a ∷ rest)
+          this e (yes q) = inl (e, q)
+          this e (no q) = inr (i (omega (arith, m, q, head-number f a rest k e)))
+      go false p m i = inr (i (omega arith))

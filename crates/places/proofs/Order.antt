@@ -3,6 +3,7 @@ use mathlib.Core.Path.{_≡_, refl, sym, _∙_}
 use mathlib.Core.Logic.{_⊎_, inl, inr}
 use mathlib.Core.Bool.{Bool, true, false, _&&_, _||_, true≢false, false≢true}
 use Prim.Native.Nat.{_≤_, _<_}
+use native.Mathlib.Decide.{decLt}
 use native.Mathlib.Omega.{arith}
 use borrow.Author.Tests.{lt-ltb, le-ltb, eq-eqb, ne-eqb, ltb-true, eqb-true}
 use lib.Dec.{ltb, eqb}
@@ -95,3 +96,16 @@ not-self a = told-not a a (before-self a)
 pub not-earlier : (a b c : Key) → comesBefore c b ≡ true → comesBefore a b ≡ false → comesBefore a c ≡ false
 not-earlier a b c p n =
     told-not a c (λ q. true≢false (sym (told-before a b (before-trans a c b q (before-told c b p))) ∙ n))
+
+-- a key that does not come before another has no smaller rank, and of equal ranks no smaller flow
+pub not-ahead : (a b : Key) → comesBefore a b ≡ false → (b .rank ≤ a .rank) × (a .rank ≡ b .rank → b .flow ≤ a .flow)
+unfolding Before
+not-ahead a b n = (go (decLt (a .rank) (b .rank)), λ e. on e (decLt (a .flow) (b .flow)))
+  where
+    go : Dec (a .rank < b .rank) → b .rank ≤ a .rank
+    go (yes l) = absurd (true≢false (sym (told-before a b (inl l)) ∙ n))
+    go (no l) = omega arith
+
+    on : a .rank ≡ b .rank → Dec (a .flow < b .flow) → b .flow ≤ a .flow
+    on e (yes l) = absurd (true≢false (sym (told-before a b (inr (inl (e, l)))) ∙ n))
+    on e (no l) = omega arith

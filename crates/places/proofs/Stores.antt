@@ -1,15 +1,15 @@
 -- A store in a list of places: what stands where after it, and a count before and after it. A flow's first free place is free and its own.
-use mathlib.Core.Path.{_≡_, refl}
-use mathlib.Core.Bool.{Bool, false}
+use mathlib.Core.Path.{_≡_, refl, ap}
+use mathlib.Core.Bool.{Bool, true, false}
 use mathlib.Core.List.{List}
 use Prim.Native.Nat.{ℕ, _+_, _*_, _≤_, _<_}
 use native.Mathlib.Decide.{ℕ-discrete}
 use native.Mathlib.Nat.{div-eq-of-lt-le, add-mul, one-mul}
 use native.Mathlib.Omega.{arith}
-use lib.ListN.{length, getD, set, drop}
+use lib.ListN.{length, getD, set, drop, length-set}
 use lib.Seq.{getD-set-same, getD-set-other, getD-take, getD-drop}
 use Rattle.places.specs.Places.{bit, count, countAt, placesOf, flowOf, firstFree}
-use Rattle.places.proofs.CountAt.{at-set}
+use Rattle.places.proofs.CountAt.{at-here, at-set}
 use Rattle.places.proofs.Free.{room-left, first-is-free, part-length}
 
 module _ {A : Type 0} (xs : List A) (i : ℕ) (x d : A) (low : i < length xs) where
@@ -39,6 +39,22 @@ module _ {A : Type 0} (xs : List A) (i : ℕ) (x d : A) (low : i < length xs) wh
       let s = rw (z, f) at (at-set p 0 xs i x d low) in
       omega arith
 
+-- the places of a flow are the flow's
+pub place-flow : (n flow k : ℕ) → k < n → flowOf n (flow * n + k) ≡ flow
+place-flow n flow k l = div-eq-of-lt-le n (omega arith) (omega (arith, l, add-mul flow 1 n, one-mul n))
+
+-- where no more than one place passes a test, two that pass are one
+pub at-one : {A : Type 0} (test : ℕ → A → Bool) (free : A) → ((k : ℕ) → test k free ≡ false) → (xs : List A) → countAt test 0 xs ≤ 1
+    → (i j : ℕ) → i < length xs → j < length xs → test i (getD xs i free) ≡ true → test j (getD xs j free) ≡ true → j ≡ i
+at-one test free never xs one i j a b p q = go (ℕ-discrete j i)
+  where
+    go : Dec (j ≡ i) → j ≡ i
+    go (yes e) = e
+    go (no n) =
+        let z : 0 + j ≡ j = omega arith in
+        let there : test (0 + j) (getD (set xs i free) j free) ≡ true = rw (z, getD-set-other xs i j free free n) q in
+        absurd (omega (arith, one, at-less xs i free free a test (never i), ap bit p, at-here test free 0 (set xs i free) j (rw (length-set xs i free) b) there))
+
 -- a flow's first free place, where one is free
 module _ {A : Type 0} (held : A → Bool) (d : A) (xs : List A) (n flow : ℕ) (fits : flow * n + n ≤ length xs) (room : count held (placesOf n flow xs) < n) where
   first-low : firstFree held (placesOf n flow xs) < n
@@ -48,7 +64,7 @@ module _ {A : Type 0} (held : A → Bool) (d : A) (xs : List A) (n flow : ℕ) (
   free-low = omega (arith, first-low)
 
   pub free-flow : flowOf n (flow * n + firstFree held (placesOf n flow xs)) ≡ flow
-  free-flow = div-eq-of-lt-le n (omega arith) (omega (arith, first-low, add-mul flow 1 n, one-mul n))
+  free-flow = place-flow n flow (firstFree held (placesOf n flow xs)) first-low
 
   pub free-unheld : held (getD xs (flow * n + firstFree held (placesOf n flow xs)) d) ≡ false
   free-unheld =

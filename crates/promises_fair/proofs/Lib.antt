@@ -5,3 +5,6 @@ pub mod Began
 pub mod Ceased
 pub mod Good
 pub mod Account
+pub mod Tags
+pub mod Stamped
+pub mod Next

@@ -6,6 +6,7 @@ use Prim.Native.Nat.{ℕ, _≤_, _<_, zero-le}
 use native.Mathlib.Omega.{arith}
 use lib.ListN.{getD-replicate}
 use Rattle.units.specs.Limits.{tagLimit, badWeight}
+use Rattle.units.specs.declared.Tag.{Tag}
 use Rattle.places.specs.Places.{count}
 use Rattle.places.specs.Choice.{at}
 use Rattle.places.specs.Marks.{opens, closes, openIn, inForce}
@@ -15,9 +16,10 @@ use Rattle.tags.specs.declared.Packet.{Packet as Place}
 use Rattle.tags.specs.Tags.{freePacket, shutFlow}
 use Rattle.packets.specs.declared.Queue.{Queue}
 use Rattle.packets.specs.declared.Quote.{Quote}
+use Rattle.packets.specs.declared.Answer.the-variants.{Begun}
 use Rattle.packets.specs.Queue.{freshQueue, flowAt, waitingOf, busyWith}
 use Rattle.packets.specs.Calls.{queueWith, opened, closed, placed, begun, ended}
-use Rattle.promises_queue.specs.Packets.{Packets, noPackets}
+use Rattle.promises_queue.specs.Packets.{Packets, noPackets, wasBegun}
 use Rattle.promises_queue.specs.Notes.{marked, noteOffer, noteService}
 use Rattle.promises_queue.specs.Promised.{holds, begunOf, TermsStand}
 use Rattle.promises_queue.proofs.Kept.{QueueKept, Ordered, serving-told, waiting-told}
@@ -105,3 +107,24 @@ module _ {q : Queue} {h : Packets} (g : QueueGood q h) where
         ordered = ordered-end (q .service) (g .ordered) (h .calls);
         terms = terms-end h (g .terms) _ _ _ _ _ _;
       }
+
+-- what is kept does not depend on the start tag that a begin is noted with
+pub queue-start : {q : Queue} {h : Packets} (f n l : ℕ) (s z : Tag) → QueueGood q (noteService h (Begun f n l s)) → QueueGood q (noteService h (Begun f n l z))
+unfolding wasBegun begunOf
+queue-start f n l s z g =
+    let k = g .kept in
+    record {
+      kept =
+          record {
+            sixteen = k .sixteen;
+            long = k .long;
+            openFlows = k .openFlows;
+            weights = k .weights;
+            fit = k .fit;
+            next = k .next;
+            tied = k .tied;
+            service = k .service;
+          };
+      ordered = record { numbered = g .ordered .numbered; inOrder = g .ordered .inOrder; begun = g .ordered .begun; known = g .ordered .known };
+      terms = g .terms;
+    }

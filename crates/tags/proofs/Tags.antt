@@ -1,6 +1,6 @@
--- The later of two tags by its number, each case of a packet's finish, from the tests that lead to it, and that what a packet costs is
--- far from the largest number.
-use mathlib.Core.Path.{_≡_, refl, sym, _∙_}
+-- Tags by their numbers, the later of two by its number, each case of a packet's finish, from the tests that lead to it, and that what a
+-- packet costs is far from the largest number.
+use mathlib.Core.Path.{_≡_, refl, sym, ap, _∙_}
 use mathlib.Core.Bool.{Bool, true, false, cond}
 use Prim.Native.Nat.{ℕ, _+_, _*_, _≤_, max}
 use native.Mathlib.Nat.{mul-le-mul}
@@ -15,6 +15,10 @@ use Rattle.units.proofs.Charges.{charge-most}
 use Rattle.tags.specs.declared.Finish.{Finish}
 use Rattle.tags.specs.declared.Finish.the-variants.{At, Beyond}
 use Rattle.tags.specs.Tags.{laterOf, finishAt, finishOf}
+
+-- tags of one number are one tag
+pub tag-same : (a b : Tag) → a .0 ≡ b .0 → a ≡ b
+tag-same a b e = ap (λ (n : ℕ). record { 0 = n }) e
 
 -- the later of two tags is the larger number
 pub later-max : (a b : Tag) → laterOf a b .0 ≡ max (a .0) (b .0)

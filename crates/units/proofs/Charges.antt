@@ -3,7 +3,7 @@ use mathlib.Core.Path.{_≡_, refl, ap, _∙_}
 use mathlib.Core.Bool.{Bool, true, false, _&&_, false≢true}
 use Prim.Native.Nat.{ℕ, zero, suc, _+_, _*_, _-_, _≤_, _<_}
 use native.Mathlib.Decide.{decLt}
-use native.Mathlib.Nat.{not-suc-le-zero, le-mul-of-pos-right, zero-mul}
+use native.Mathlib.Nat.{not-suc-le-zero, le-mul-of-pos-right, mul-le-mul-left, zero-mul}
 use native.Mathlib.Omega.{arith}
 use borrow.Author.Tests.{eqb-true}
 use lib.Dec.{eqb}
@@ -61,3 +61,10 @@ charge-least weight good = go (chargeOf weight) (product-rule weight good)
     go : (charge : ℕ) → charge * weight ≡ byteUnits → 1 ≤ charge
     go zero e = absurd (omega (arith, zero-mul weight))
     go (suc c) e = omega arith
+
+-- at such a weight a byte costs no less than at weight 16
+pub charge-floor : (weight : ℕ) → badWeight weight ≡ false → 45045 ≤ chargeOf weight
+charge-floor weight good =
+    let l = inside weight 16 good in
+    let m = mul-le-mul-left {m = weight} {n = 16} (chargeOf weight) (l .1) in
+    omega (arith, product-rule weight good, m)

@@ -2,7 +2,7 @@
 -- first that does.
 use mathlib.Core.Path.{_≡_, refl, sym, ap, _∙_}
 use mathlib.Core.Bool.{Bool, true, false, cond, true≢false}
-use mathlib.Core.List.{List, [], _∷_}
+use mathlib.Core.List.{List, [], _∷_, _++_}
 use mathlib.Core.Option.{Option, none, some}
 use Prim.Native.Nat.{ℕ, _≤_}
 use native.Mathlib.Omega.{arith}
@@ -114,3 +114,27 @@ not-given r (g ∷ gs) n e = go (g .1) refl e (not-given r gs (n .1))
     go : (b : Bool) → g .1 ≡ b → cond b (some (g .0)) (firstOf gs) ≡ some r → (firstOf gs ≡ some r → ⊥) → ⊥
     go true p q rest = true≢false (sym p ∙ n .0 (some-is-some (g .0) r q))
     go false p q rest = rest q
+
+-- one ground more, of a refusal that is not given, changes nothing
+pub first-plus : (r : Refusal) (b : Bool) (gs : List Ground) → (firstOf (gs ++ (r, b) ∷ []) ≡ some r → ⊥) → firstOf gs ≡ firstOf (gs ++ (r, b) ∷ [])
+unfolding firstOf
+first-plus r true [] n = absurd (n refl)
+first-plus r false [] n = refl
+first-plus r b (g ∷ gs) n = go (g .1) n (first-plus r b gs)
+  where
+    go : (t : Bool) → (cond t (some (g .0)) (firstOf (gs ++ (r, b) ∷ [])) ≡ some r → ⊥) → ((firstOf (gs ++ (r, b) ∷ []) ≡ some r → ⊥) → firstOf gs ≡ firstOf (gs ++ (r, b) ∷ []))
+        → cond t (some (g .0)) (firstOf gs) ≡ cond t (some (g .0)) (firstOf (gs ++ (r, b) ∷ []))
+    go true n rest = refl
+    go false n rest = rest n
+
+-- nor does one more that does not hold
+pub first-skip : (r : Refusal) (gs : List Ground) → firstOf (gs ++ (r, false) ∷ []) ≡ firstOf gs
+unfolding firstOf
+first-skip r [] = refl
+first-skip r (g ∷ gs) = ap (cond (g .1) (some (g .0))) (first-skip r gs)
+
+-- what holds of two calls that are refused alike, and that go through alike, holds of both
+pub both-cases : {D E : Type 0} (first : Refusal → D) (second : Refusal → E) (P : D → E → Type 0) → ((r : Refusal) → P (first r) (second r))
+    → (o : Option Refusal) (d : D) (e : E) → P d e → P (unless first o d) (unless second o e)
+both-cases first second P refused none d e ok = ok
+both-cases first second P refused (some r) d e ok = refused r
