@@ -1,0 +1,6 @@
+pub mod Fans
+pub mod Ways
+pub mod Limit
+pub mod Trees
+pub mod Parts
+pub mod ShutOut

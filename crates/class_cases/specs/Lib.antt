@@ -1,0 +1,9 @@
+pub mod Noted
+pub mod Table
+pub mod Fans
+pub mod Ways
+pub mod Limit
+pub mod Trees
+pub mod Parts
+pub mod Wrong
+pub mod ShutOut

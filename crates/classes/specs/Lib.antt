@@ -1,0 +1,4 @@
+pub mod Lane
+pub mod Calls
+pub mod Answers
+pub mod Laws

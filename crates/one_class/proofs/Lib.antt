@@ -1,0 +1,10 @@
+pub mod OneQueue
+pub mod OneTree
+pub mod OneFresh
+pub mod OneFlows
+pub mod OneEnd
+pub mod OneOffer
+pub mod OneChoice
+pub mod OneTaking
+pub mod OneBegin
+pub mod OneClass
