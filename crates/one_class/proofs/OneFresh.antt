@@ -2,13 +2,11 @@
 use mathlib.Core.Path.{_≡_, refl, sym, ap, _∙_}
 use mathlib.Core.Bool.{Bool, true, false, cond, false≢true}
 use mathlib.Core.List.{[]}
-use Prim.Native.Nat.{ℕ, zero, suc, _+_, _<_}
-use native.Mathlib.Nat.{not-suc-le-zero}
+use Prim.Native.Nat.{ℕ, _<_}
 use native.Mathlib.Omega.{arith}
 use borrow.Author.Tests.{lt-leb}
 use lib.Dec.{leb, eqb}
-use lib.ListN.{getD, getD-replicate, List·getD-append}
-use lib.Seq.{getD-append-add}
+use lib.ListN.{getD-replicate}
 use Rattle.places.specs.Places.{count}
 use Rattle.tags.specs.declared.Flow.{Flow}
 use Rattle.tags.specs.Tags.{shutFlow}
@@ -21,33 +19,11 @@ use Rattle.plans.specs.declared.Plan.{Plan}
 use Rattle.plans.specs.Numbered.{listFrom}
 use Rattle.plans.specs.Plans.{parentIn, weightIn, Fits}
 use Rattle.tree.specs.declared.Node.{Node}
-use Rattle.tree.specs.Tree.{noTag, noNode, noParent, nodeOf, nodeAt, newNode, classNode, flowNode, treeOf}
+use Rattle.tree.specs.Tree.{noTag, noNode, noParent, newNode, classNode, flowNode, treeOf}
+use Rattle.tree.proofs.Described.{class-node, flow-node}
 use Rattle.one_class.proofs.OneTree.{FlowNode, OneTree}
 
--- an entry of a list of what a function gives for the numbers from k on
-at-from : {A : Type 0} (f : ℕ → A) (d : A) (n k i : ℕ) → i < n → getD (listFrom f k n) i d ≡ f (k + i)
-unfolding listFrom
-at-from f d zero k i l = absurd (not-suc-le-zero l)
-at-from f d (suc n) k zero l = ap f (omega arith)
-at-from f d (suc n) k (suc i) l = at-from f d n (suc k) i (omega arith) ∙ ap f (omega arith)
-
 module _ (p : Plan) where
-  -- a class's node
-  class-node : (k : ℕ) → k < 31 → nodeAt (treeOf p) k ≡ classNode p k
-  unfolding treeOf listFrom
-  class-node k l =
-      List·getD-append (listFrom (classNode p) 0 31) (listFrom (flowNode p) 0 16) noNode k l
-      ∙ at-from (classNode p) noNode 31 0 k l
-      ∙ ap (classNode p) (omega arith)
-
-  -- a flow's
-  flow-node : (f : ℕ) → f < 16 → nodeAt (treeOf p) (nodeOf f) ≡ flowNode p f
-  unfolding treeOf listFrom
-  flow-node f l =
-      getD-append-add (listFrom (classNode p) 0 31) (listFrom (flowNode p) 0 16) f noNode
-      ∙ at-from (flowNode p) noNode 16 0 f l
-      ∙ ap (flowNode p) (omega arith)
-
   -- nothing waits below a class
   none-below : (k : ℕ) → classNode p k .waiting ≡ 0
   none-below k = go (leb (p .count) k)
@@ -65,10 +41,10 @@ module _ (p : Plan) where
         classes = refl;
         root = rw (lt-leb (p .count) 0 (omega (arith, one)));
         all = none-below 0;
-        spare = λ k a b. ap (λ (x : Node). x .waiting) (class-node k b) ∙ none-below k;
+        spare = λ k a b. ap (λ (x : Node). x .waiting) (class-node p k b) ∙ none-below k;
         time = refl;
         largest = refl;
-        flows = λ f b. rw (flow-node f b) (flow f b);
+        flows = λ f b. rw (flow-node p f b) (flow f b);
         served = λ f e. absurd (false≢true e);
       }
     where

@@ -1,11 +1,12 @@
--- What a test over numbers that follow one another says of each.
+-- What a test over numbers that follow one another says of each, and what a list over them holds.
 use mathlib.Core.Path.{_≡_, refl, ap, _∙_}
 use mathlib.Core.Bool.{Bool, true, false, _||_, true≢false}
 use Prim.Native.Nat.{ℕ, zero, suc, _+_, _≤_, _<_}
 use native.Mathlib.Omega.{arith}
 use borrow.Author.Tests.{eqb-true, eqb-false}
 use lib.Dec.{eqb}
-use Rattle.plans.specs.Numbered.{anyFrom}
+use lib.ListN.{length, getD}
+use Rattle.plans.specs.Numbered.{anyFrom, listFrom}
 
 -- neither of two tests holds
 pub or-none : (a b : Bool) → a ≡ false → b ≡ false → (a || b) ≡ false
@@ -31,3 +32,16 @@ unfolding anyFrom
 none-any test k zero h = refl
 none-any test k (suc n) h =
     or-none (test k) (anyFrom test (suc k) n) (h k (omega arith) (omega arith)) (none-any test (suc k) n (λ i a b. h i (omega arith) (omega arith)))
+
+-- a list over n numbers has n entries
+pub from-length : {A : Type 0} (f : ℕ → A) (k n : ℕ) → length (listFrom f k n) ≡ n
+unfolding listFrom
+from-length f k zero = refl
+from-length f k (suc n) = ap suc (from-length f (suc k) n)
+
+-- and at each place what the function gives for the number
+pub from-at : {A : Type 0} (f : ℕ → A) (d : A) (k n i : ℕ) → i < n → getD (listFrom f k n) i d ≡ f (k + i)
+unfolding listFrom
+from-at f d k zero i h = absurd (omega arith)
+from-at f d k (suc n) zero h = let e : k ≡ k + 0 = omega arith in ap f e
+from-at f d k (suc n) (suc i) h = from-at f d (suc k) n i (omega arith) ∙ (let e : suc k + i ≡ k + suc i = omega arith in ap f e)

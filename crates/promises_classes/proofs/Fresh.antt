@@ -2,18 +2,17 @@
 use mathlib.Core.Path.{_≡_, refl, sym, _∙_, ap}
 use mathlib.Core.Bool.{Bool, true, false, cond}
 use mathlib.Core.List.{[]}
-use Prim.Native.Nat.{ℕ, zero, suc, _+_, _<_}
+use Prim.Native.Nat.{ℕ}
 use native.Mathlib.Omega.{arith}
 use borrow.Author.Tests.{ne-eqb, lt-leb}
 use lib.Dec.{eqb, leb}
-use lib.ListN.{length, getD, length-append, length-replicate, List·getD-append, getD-replicate}
-use lib.Seq.{getD-append-add}
+use lib.ListN.{length-replicate, getD-replicate}
 use Rattle.places.specs.Marks.{inForce}
 use Rattle.plans.specs.declared.Plan.{Plan}
-use Rattle.plans.specs.Numbered.{listFrom}
 use Rattle.plans.specs.Plans.{parentIn, weightIn, Fits}
 use Rattle.tree.specs.declared.Node.{Node}
-use Rattle.tree.specs.Tree.{noNode, noTimes, noParent, nodeOf, nodeAt, newNode, classNode, flowNode, treeOf}
+use Rattle.tree.specs.Tree.{noNode, noTimes, noParent, nodeAt, newNode, classNode, flowNode, treeOf}
+use Rattle.tree.proofs.Described.{node-count, class-node, flow-node}
 use Rattle.classes.specs.Lane.{laneOf}
 use Rattle.promises_classes.specs.Events.{packetsIn}
 use Rattle.promises_classes.specs.Rules.{Child, aClass, aFlow, startTag}
@@ -22,36 +21,6 @@ use Rattle.promises_classes.specs.Promised.{placeOf, waitingBelow}
 use Rattle.promises_classes.proofs.Ways.{Sound, hangs-sound}
 use Rattle.promises_classes.proofs.Counts.{sum-none}
 use Rattle.promises_classes.proofs.Kept.{TreeKept}
-
--- a list by number has as many entries as it was given
-from-length : {A : Type 0} (f : ℕ → A) (k n : ℕ) → length (listFrom f k n) ≡ n
-unfolding listFrom
-from-length f k zero = refl
-from-length f k (suc n) = ap suc (from-length f (suc k) n)
-
--- and at each place what the function gives for it
-from-at : {A : Type 0} (f : ℕ → A) (d : A) (k n i : ℕ) → i < n → getD (listFrom f k n) i d ≡ f (k + i)
-unfolding listFrom
-from-at f d k zero i h = absurd (omega arith)
-from-at f d k (suc n) zero h = let e : k ≡ k + 0 = omega arith in ap f e
-from-at f d k (suc n) (suc i) h = from-at f d (suc k) n i (omega arith) ∙ (let e : suc k + i ≡ k + suc i = omega arith in ap f e)
-
--- the node of a class in the tree of a plan
-class-node : (p : Plan) (c : ℕ) → c < 31 → nodeAt (treeOf p) c ≡ classNode p c
-unfolding treeOf
-class-node p c l =
-    List·getD-append (listFrom (classNode p) 0 31) (listFrom (flowNode p) 0 16) noNode c (omega (arith, l, from-length (classNode p) 0 31))
-    ∙ from-at (classNode p) noNode 0 31 c l
-    ∙ (let e : 0 + c ≡ c = omega arith in ap (classNode p) e)
-
--- and that of a flow
-flow-node : (p : Plan) (f : ℕ) → f < 16 → nodeAt (treeOf p) (nodeOf f) ≡ flowNode p f
-unfolding treeOf
-flow-node p f l =
-    ap (λ n. getD (treeOf p .nodes) (n + f) noNode) (sym (from-length (classNode p) 0 31))
-    ∙ getD-append-add (listFrom (classNode p) 0 31) (listFrom (flowNode p) 0 16) f noNode
-    ∙ from-at (flowNode p) noNode 0 16 f l
-    ∙ (let e : 0 + f ≡ f = omega arith in ap (flowNode p) e)
 
 module _ (p : Plan) (ok : Fits p) where
   -- the node of a child before any call
@@ -101,9 +70,7 @@ module _ (p : Plan) (ok : Fits p) where
             record {
               root = ap (λ z. z .parent) (class-node p 0 (omega arith)) ∙ rw (lt-leb (p .count) 0 (omega (arith, ok .rooted)));
               parents = λ x s. ap (λ z. z .parent) (node x s) ∙ parent-is x s;
-              long =
-                  length-append (listFrom (classNode p) 0 31) (listFrom (flowNode p) 0 16)
-                  ∙ rw (from-length (classNode p) 0 31, from-length (flowNode p) 0 16);
+              long = node-count p;
               wide = length-replicate 31 noTimes;
             };
         weighs = λ x s. ap (λ z. z .weight) (node x s) ∙ weight-is x s;
