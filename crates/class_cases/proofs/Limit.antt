@@ -24,10 +24,12 @@ limit =
     record {
       six = refl;
       six-of-flow = refl;
+      six-of-middle = refl;
       goes = refl;
       finish = refl;
       other = refl;
       beside = refl;
       noted-within = refl;
       noted-past = refl;
+      noted-middle = refl;
     }

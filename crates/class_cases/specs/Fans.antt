@@ -68,15 +68,15 @@ double =
           ∷ [];
     }
 
--- In class 1 flow 0's three bytes finish at 2,162,160 and flow 1's one at 720,720, and that ends last: with nothing more below it class 1's v goes
+-- In class 1 flow 0's three bytes finish at 2,162,160 and flow 1's two at 1,441,440, and those end last: with nothing more below it class 1's v goes
 -- on to 2,162,160. The root is busy with flow 2, whose packets of two bytes start class 2 at 0, 1,441,440 and 2,882,880. Flow 1's next packet
--- starts at 2,162,160 in class 1, and class 1 at its last finish in the root, 2,882,880: there it goes before class 2.
+-- starts at 2,162,160 in class 1, and class 1 at its last finish in the root, 3,603,600, and not at the root's v, 2,162,160: class 2 goes before it.
 abbrev pub drained : Case
 drained =
     record {
       plan = fansPlan;
       calls =
-          Open 0 1 ∷ Open 1 1 ∷ Open 2 1 ∷ Offer 0 3 ∷ Offer 1 1 ∷ Offer 2 2 ∷ Offer 2 2 ∷ Offer 2 2
+          Open 0 1 ∷ Open 1 1 ∷ Open 2 1 ∷ Offer 0 3 ∷ Offer 1 2 ∷ Offer 2 2 ∷ Offer 2 2 ∷ Offer 2 2
           ∷ served 4 ++ Offer 1 1 ∷ served 2;
       expected =
           ok ∷ ok ∷ ok ∷ taken 0 ∷ taken 0 ∷ taken 0 ∷ taken 1 ∷ taken 2
@@ -86,13 +86,13 @@ drained =
           ∷ ended 2 0 2
           ∷ begun 2 1 2 1441440
           ∷ ended 2 1 2
-          ∷ begun 1 0 1 0
-          ∷ ended 1 0 1
+          ∷ begun 1 0 2 0
+          ∷ ended 1 0 2
           ∷ taken 1
-          ∷ begun 1 1 1 2162160
-          ∷ ended 1 1 1
           ∷ begun 2 2 2 2882880
           ∷ ended 2 2 2
+          ∷ begun 1 1 1 2162160
+          ∷ ended 1 1 1
           ∷ [];
     }
 

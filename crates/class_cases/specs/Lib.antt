@@ -2,6 +2,7 @@ pub mod Noted
 pub mod Table
 pub mod Fans
 pub mod Ways
+pub mod Inner
 pub mod Limit
 pub mod Trees
 pub mod Parts

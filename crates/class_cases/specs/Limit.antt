@@ -16,8 +16,9 @@ use Rattle.classes.specs.Calls.{refused, callOf}
 use Rattle.promises_classes.specs.Events.{opened, accepted}
 use Rattle.promises_classes.specs.Refused.{groundsNoted}
 use Rattle.promises_classes.specs.Run.{run}
-use Rattle.class_cases.specs.Table.{toldBy, no, taken, begun, ended}
+use Rattle.class_cases.specs.Table.{planOf, toldBy, no, taken, begun, ended}
 use Rattle.class_cases.specs.Fans.{fansPlan}
+use Rattle.class_cases.specs.Ways.{deepPlan}
 
 -- the two fans, where one byte of flow 0 waits
 abbrev pub waiting : Classes
@@ -29,26 +30,31 @@ wornTree k tag t =
     withTimes (withNode t k (withTags (nodeAt t k) 1 tag tag)) (nodeAt t k .parent)
     (record { time = record { 0 = tag .0 - 720720 }; largest = tag })
 
--- the same lane, where the child at this place starts at this tag
-abbrev pub wornAt : ℕ → ℕ → Classes
-wornAt k tag = record { tree = wornTree k (record { 0 = tag }) (waiting .tree); queue = waiting .queue }
+-- a lane where the child at this place starts at this tag
+abbrev pub wornAt : Classes → ℕ → ℕ → Classes
+wornAt u k tag = record { tree = wornTree k (record { 0 = tag }) (u .tree); queue = u .queue }
 
 -- class 1 would finish in the root one past the largest tag, and at it
 abbrev pub past : Classes
-past = wornAt 1 4611686018426667185
+past = wornAt waiting 1 4611686018426667185
 
 abbrev pub within : Classes
-within = wornAt 1 4611686018426667184
+within = wornAt waiting 1 4611686018426667184
 
 -- flow 0 would finish in class 1 one past it
 abbrev pub flowPast : Classes
-flowPast = wornAt (nodeOf 0) 4611686018426667185
+flowPast = wornAt waiting (nodeOf 0) 4611686018426667185
+
+-- a byte of the flow below four classes waits, and the one in the middle of its way, class 2, would finish in class 1 one past it
+abbrev pub middlePast : Classes
+middlePast = wornAt (run deepPlan (Open 0 1 ∷ Offer 0 1 ∷ []) .lane) 2 4611686018426667185
 
 -- What is answered there.
 pub record Limit : Type 0 where
-  -- a begin is refused with 6, at a class or at a flow, and nothing changes
+  -- a begin is refused with 6, at a class, at a flow or at a class in the middle of the way, and nothing changes
   pub six : callOf past Begin ≡ refused past TagsUsedUp
   pub six-of-flow : callOf flowPast Begin ≡ refused flowPast TagsUsedUp
+  pub six-of-middle : callOf middlePast Begin ≡ refused middlePast TagsUsedUp
   -- one tag lower it goes through, and class 1 finishes at the largest tag
   pub goes : toldBy within (Begin ∷ []) ≡ begun 0 0 1 0 ∷ []
   pub finish : nodeAt (callOf within Begin .lane .tree) 1 .finish .0 ≡ 4611686018427387904
@@ -65,3 +71,7 @@ pub record Limit : Type 0 where
   -- 720,720 of it in the root, or passes it.
   pub noted-within : firstOf (groundsNoted fansPlan (accepted 0 0 6398720749288 ∷ opened 0 16 ∷ []) Begin) ≡ none
   pub noted-past : firstOf (groundsNoted fansPlan (accepted 0 0 6398720749289 ∷ opened 0 16 ∷ []) Begin) ≡ some TagsUsedUp
+  -- so does the middle of three classes, of weight 1 between two of weight 16
+  pub noted-middle :
+      firstOf (groundsNoted (planOf (0 ∷ 0 ∷ 1 ∷ 2 ∷ []) (1 ∷ 16 ∷ 1 ∷ 16 ∷ []) (3 ∷ [])) (accepted 0 0 6398720749289 ∷ opened 0 16 ∷ []) Begin)
+      ≡ some TagsUsedUp

@@ -63,8 +63,8 @@ deep =
           ∷ [];
     }
 
--- Each refusal but 6. Flow 0's two bytes finish at 1,441,440 in class 1, which drains there. Closed and opened again with weight 2, flow 0 goes on
--- from there, with number 1, and by 360,360 a byte. Flow 2 has sixteen places.
+-- Each refusal but 6. Flow 0's two bytes finish at 1,441,440 in class 1, which drains there. Closed and opened again with weight 2, flow 0 starts
+-- there, with number 1, and goes on by 360,360 a byte. Flow 2 has sixteen places.
 abbrev pub refusals : Case
 refusals =
     record {

@@ -15,6 +15,7 @@ told (Taken number) = values (number ∷ [])
 told (Begun flow number length start) = values (flow ∷ number ∷ length ∷ start .0 ∷ [])
 told (Ended flow number length) = values (flow ∷ number ∷ length ∷ [])
 
+-- the refusal, where it is one
 abbrev pub refusalIn : Answer → Option Refusal
 refusalIn (Refused r) = some r
 refusalIn Opened = none

@@ -49,6 +49,7 @@ openOf u flow weight = unless (refused u) (firstOf (openingGrounds flow weight (
 abbrev pub closed : Classes → ℕ → Done
 closed u flow = done (u .tree) (queueWith (u .queue) (closedIn (u .queue) flow)) Closed
 
+-- what a closing may be refused for
 abbrev pub closeGrounds : Classes → ℕ → List Ground
 closeGrounds u flow = closingGrounds flow (flowAt (u .queue) flow) (waitingOf (u .queue) flow) (busyWith (u .queue .service) flow)
 
@@ -65,6 +66,7 @@ abbrev pub taken : Classes → ℕ → ℕ → Done
 taken u flow length =
     done (offeredTo (u .tree) flow) (placed (u .queue) flow length untagged .queue) (Taken (flowAt (u .queue) flow .next))
 
+-- what an offer may be refused for
 abbrev pub offerGrounds : Classes → ℕ → ℕ → List Ground
 offerGrounds u flow length = waitingGrounds flow (flowAt (u .queue) flow) (waitingOf (u .queue) flow) length
 

@@ -1,7 +1,6 @@
 -- The class lane's state, the packet that a begin takes, and the conditions under which each call is refused.
 use mathlib.Core.Bool.{Bool, false}
 use mathlib.Core.List.{List, [], _∷_}
-use lib.ListN.{replicate}
 use Rattle.units.specs.Limits.{placeCount}
 use Rattle.units.specs.Refusals.{Ground}
 use Rattle.units.specs.declared.Refusal.the-variants.{TagsUsedUp, PacketInService, NothingWaits}
@@ -19,10 +18,6 @@ use Rattle.classes.specs.declared.Classes.{Classes}
 -- the lane of a tree that is described, before any call
 abbrev pub laneOf : Plan → Classes
 laneOf p = record { tree = treeOf p; queue = freshQueue }
-
--- a tree of one class, of weight 1, from which every flow hangs
-abbrev pub onePlan : Plan
-onePlan = record { count = 1; parents = replicate 31 0; weights = replicate 31 1; classes = replicate 16 0 }
 
 -- the packet that a begin takes: of the flow that is met, the waiting one of least number
 abbrev pub chosen : Classes → Choice Packet

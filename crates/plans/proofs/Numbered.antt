@@ -1,6 +1,6 @@
 -- What a test over numbers that follow one another says of each, and what a list over them holds.
-use mathlib.Core.Path.{_≡_, refl, ap, _∙_}
-use mathlib.Core.Bool.{Bool, true, false, _||_, true≢false}
+use mathlib.Core.Path.{_≡_, refl, sym, ap, _∙_}
+use mathlib.Core.Bool.{Bool, true, false, _||_, true≢false, false≢true}
 use Prim.Native.Nat.{ℕ, zero, suc, _+_, _≤_, _<_}
 use native.Mathlib.Omega.{arith}
 use borrow.Author.Tests.{eqb-true, eqb-false}
@@ -45,3 +45,40 @@ unfolding listFrom
 from-at f d k zero i h = absurd (omega arith)
 from-at f d k (suc n) zero h = let e : k ≡ k + 0 = omega arith in ap f e
 from-at f d k (suc n) (suc i) h = from-at f d (suc k) n i (omega arith) ∙ (let e : suc k + i ≡ k + suc i = omega arith in ap f e)
+
+-- a number that passes, where one of those from k on does
+pub any-told : (test : ℕ → Bool) (k n : ℕ) → anyFrom test k n ≡ true → (i : ℕ) × (k ≤ i) × (i < k + n) × (test i ≡ true)
+unfolding anyFrom
+any-told test k zero e = absurd (false≢true e)
+any-told test k (suc n) e = go (any-told test (suc k) n) (test k) refl e
+  where
+    go : (anyFrom test (suc k) n ≡ true → (i : ℕ) × (suc k ≤ i) × (i < suc k + n) × (test i ≡ true)) → (b : Bool) → test k ≡ b
+        → (b || anyFrom test (suc k) n) ≡ true → (i : ℕ) × (k ≤ i) × (i < k + suc n) × (test i ≡ true)
+    go ih true q r = (k, omega arith, omega arith, q)
+    go ih false q r = let w = ih r in let a = w .1 in let b = w .2 in (w .0, omega (arith, a), omega (arith, b), w .3)
+
+-- and one of them does where such a number passes
+pub any-passes : (test : ℕ → Bool) (i k n : ℕ) → k ≤ i → i < k + n → test i ≡ true → anyFrom test k n ≡ true
+unfolding anyFrom
+any-passes test i k zero a b e = absurd (omega (arith, a, b))
+any-passes test i k (suc n) a b e = go (any-passes test i (suc k) n) (eqb k i) refl
+  where
+    or-true : (a : Bool) → (a || true) ≡ true
+    or-true true = refl
+    or-true false = refl
+
+    go : (suc k ≤ i → i < suc k + n → test i ≡ true → anyFrom test (suc k) n ≡ true) → (t : Bool) → eqb k i ≡ t → (test k || anyFrom test (suc k) n) ≡ true
+    go ih true q = rw (eqb-true k i q, e)
+    go ih false q = let n0 : k ≡ i → ⊥ = eqb-false k i q in rw (ih (omega (arith, n0, a)) (omega (arith, b)) e) (or-true (test k))
+
+-- a test over numbers that one of them alone can pass is that one's
+pub any-only : (test : ℕ → Bool) (i k n : ℕ) → k ≤ i → i < k + n → ((j : ℕ) → j < k + n → (i ≡ j → ⊥) → test j ≡ false) → anyFrom test k n ≡ test i
+any-only test i k n a b others = go (test i) refl
+  where
+    go : (t : Bool) → test i ≡ t → anyFrom test k n ≡ t
+    go true q = any-passes test i k n a b q
+    go false q = none-any test k n (λ j c d. each j d (eqb i j) refl)
+      where
+        each : (j : ℕ) → j < k + n → (t : Bool) → eqb i j ≡ t → test j ≡ false
+        each j d true e = ap test (sym (eqb-true i j e)) ∙ q
+        each j d false e = others j d (eqb-false i j e)

@@ -21,10 +21,9 @@ use Rattle.promises_queue.specs.Refused.{waitingIn}
 use Rattle.promises_classes.specs.Events.{History, packetsIn}
 use Rattle.promises_classes.specs.Rules.{Child, aClass, aFlow, startTag}
 use Rattle.promises_classes.specs.Views.{parentOf, HangsFrom, wayFrom, wayTo, sends, seen}
-use Rattle.promises_classes.specs.Promised.{GoesFirst, waitingBelow}
+use Rattle.promises_classes.specs.Promised.{GoesFirst}
 use Rattle.promises_classes.proofs.On.{same-self, on, on-cases, on-head, on-more, each-on}
 use Rattle.promises_classes.proofs.Ways.{falls, rest, way-order, reaches, head-on, on-up}
-use Rattle.promises_classes.proofs.Counts.{pos-sends}
 use Rattle.promises_classes.proofs.Sending.{sends-down, flow-waits}
 use Rattle.promises_classes.proofs.Kept.{TreeKept}
 use Rattle.promises_classes.proofs.Least.{childAt, least-some, least-first}
@@ -139,14 +138,3 @@ module _ (p : Plan) (ok : Fits p) (u : Classes) (h : History) (k : TreeKept p u 
   -- a flow is met where the root has something to send
   pub met-some : sends p h (aClass 0) ≡ true → flowMet (u .tree) < 16
   met-some e = meets 4 0 0 refl refl (omega (arith, ok .rooted)) e
-
-  -- and none only where nothing waits
-  pub met-none : flowMet (u .tree) ≡ 16 → waitingBelow p h (aClass 0) ≡ 0
-  met-none e = go (eqb (waitingBelow p h (aClass 0)) 0) refl
-    where
-      go : (b : Bool) → eqb (waitingBelow p h (aClass 0)) 0 ≡ b → waitingBelow p h (aClass 0) ≡ 0
-      go true q = eqb-true (waitingBelow p h (aClass 0)) 0 q
-      go false q =
-          let n : waitingBelow p h (aClass 0) ≡ 0 → ⊥ = eqb-false (waitingBelow p h (aClass 0)) 0 q in
-          let l = met-some (pos-sends p h (aClass 0) (omega (arith, n))) in
-          absurd (omega (arith, l, e))

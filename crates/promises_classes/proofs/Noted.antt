@@ -1,10 +1,10 @@
 -- T3: each call is refused as the calls and answers so far tell. A begin finds no packet exactly where nothing waits; and the flow that it
 -- comes to is the one whose packet it finds, which is the flow's first not begun.
-use mathlib.Core.Path.{_≡_, refl, sym, _∙_, ap}
+use mathlib.Core.Path.{_≡_, refl, sym, _∙_}
 use mathlib.Core.Bool.{Bool, true, false, _&&_, _||_}
 use mathlib.Core.Logic.{inl, inr}
 use mathlib.Core.List.{List, [], _∷_}
-use Prim.Native.Nat.{ℕ, _+_, _≤_, _<_}
+use Prim.Native.Nat.{ℕ, _+_, _<_}
 use native.Mathlib.Omega.{arith}
 use borrow.Author.Tests.{eqb-true, eqb-false, eq-eqb, ne-eqb}
 use lib.Dec.{eqb}
@@ -22,7 +22,7 @@ use Rattle.packets.proofs.Refused.{refused-first as queue-first}
 use Rattle.plans.specs.declared.Plan.{Plan}
 use Rattle.plans.specs.Numbered.{anyFrom}
 use Rattle.plans.specs.Plans.{Fits}
-use Rattle.plans.proofs.Numbered.{none-any}
+use Rattle.plans.proofs.Numbered.{any-only}
 use Rattle.descent.specs.Descent.{flowMet}
 use Rattle.taking.specs.Taking.{isNone}
 use Rattle.classes.specs.declared.Classes.{Classes}
@@ -41,27 +41,15 @@ use Rattle.promises_queue.proofs.Chosen.{placeFlow, held-asked}
 use Rattle.promises_queue.proofs.Account.{refused-as-noted as queue-noted}
 use Rattle.promises_classes.specs.Events.{History, packetsIn}
 use Rattle.promises_classes.specs.Views.{anyOf, wayTo}
-use Rattle.promises_classes.specs.Refused.{comesTo, passesAt, passesFor, groundsNoted}
+use Rattle.promises_classes.specs.Refused.{comesTo, passesAt, wouldPass, groundsNoted}
 use Rattle.promises_classes.specs.Run.{run, answerTo}
-use Rattle.promises_classes.proofs.Sending.{any-here, root-sends}
+use Rattle.promises_classes.proofs.Sending.{root-sends}
 use Rattle.promises_classes.proofs.Descents.{met-some, met-waits}
 use Rattle.promises_classes.proofs.Lowest.{lowest-none}
 use Rattle.promises_classes.proofs.Fitting.{passes-way}
 use Rattle.promises_classes.proofs.Comes.{of-none, told-comes, comes-told, one-comes}
 use Rattle.promises_classes.proofs.Good.{Proper, LaneGood, begin-lowest, begin-known, begin-way, begin-next, begin-there, begin-length}
 use Rattle.promises_classes.proofs.Runs.{run-good}
-
--- a test over numbers that one of them alone can pass is that one's
-any-only : (test : ℕ → Bool) (i k n : ℕ) → k ≤ i → i < k + n → ((j : ℕ) → j < k + n → (i ≡ j → ⊥) → test j ≡ false) → anyFrom test k n ≡ test i
-any-only test i k n a b others = go (test i) refl
-  where
-    go : (t : Bool) → test i ≡ t → anyFrom test k n ≡ t
-    go true q = any-here test i k n a b q
-    go false q = none-any test k n (λ j c d. each j d (eqb i j) refl)
-      where
-        each : (j : ℕ) → j < k + n → (t : Bool) → eqb i j ≡ t → test j ≡ false
-        each j d true e = ap test (sym (eqb-true i j e)) ∙ q
-        each j d false e = others j d (eqb-false i j e)
 
 -- a test of the packets of this flow and number is that of the one that there is
 only-this : (test : ℕ → Bool) (f n l s e : ℕ) (ps : List Packet) → PacketsNumbered ps → Some (IsThis f n l s e) ps
@@ -120,7 +108,7 @@ module _ (p : Plan) (ok : Fits p) (u : Classes) (h : History) (g : LaneGood p u 
 
   -- the flow that a begin comes to would pass the largest tag
   abbrev passing : ℕ → Bool
-  passing f = comesTo p h f && anyOf (passesFor p h f) (packetsIn h .accepted)
+  passing f = comesTo p h f && anyOf (wouldPass p h f) (packetsIn h .accepted)
 
   -- where it finds a packet, that packet does exactly where the flow does that it comes to
   passes-noted : (place : ℕ) (x : Place) → chosen u ≡ at place x → beyond u (at place x) ≡ anyFrom passing 0 16
@@ -135,13 +123,13 @@ module _ (p : Plan) (ok : Fits p) (u : Classes) (h : History) (g : LaneGood p u 
       known : placeFlow place < 16
       known = begin-known p ok u h g place x e
 
-      own : passing (placeFlow place) ≡ anyOf (passesFor p h (placeFlow place)) (packetsIn h .accepted)
+      own : passing (placeFlow place) ≡ anyOf (wouldPass p h (placeFlow place)) (packetsIn h .accepted)
       own = rw (told-comes p h (placeFlow place) (begin-way p ok u h g place x e)) refl
 
       others : (j : ℕ) → j < 0 + 16 → (placeFlow place ≡ j → ⊥) → passing j ≡ false
       others j l n = go (comesTo p h j) refl
         where
-          go : (b : Bool) → comesTo p h j ≡ b → (b && anyOf (passesFor p h j) (packetsIn h .accepted)) ≡ false
+          go : (b : Bool) → comesTo p h j ≡ b → (b && anyOf (wouldPass p h j) (packetsIn h .accepted)) ≡ false
           go true q =
               absurd (n (one-comes p ok h (placeFlow place) j known (omega (arith, l)) (begin-way p ok u h g place x e) (comes-told p h j ok q)))
           go false q = refl

@@ -1,16 +1,16 @@
 -- Who has something to send: a class has where some child of it has, and only there.
 use mathlib.Core.Path.{_≡_, refl, sym, _∙_, ap}
-use mathlib.Core.Bool.{Bool, true, false, cond, _&&_, _||_, false≢true}
+use mathlib.Core.Bool.{Bool, true, false, cond, _&&_, _||_}
 use mathlib.Core.Logic.{inl, inr}
 use mathlib.Core.List.{List, [], _∷_}
-use Prim.Native.Nat.{ℕ, zero, suc, _+_, _≤_, _<_}
+use Prim.Native.Nat.{ℕ, zero, suc, _<_}
 use native.Mathlib.Omega.{arith}
 use borrow.Author.Tests.{ltb-true, lt-ltb, eqb-true, eqb-false, ne-eqb}
 use lib.Dec.{eqb, ltb}
 use Rattle.places.proofs.Tests.{and-told, eqb-self}
 use Rattle.plans.specs.declared.Plan.{Plan}
-use Rattle.plans.specs.Numbered.{anyFrom}
 use Rattle.plans.specs.Plans.{classIn, Fits}
+use Rattle.plans.proofs.Numbered.{any-told, any-passes}
 use Rattle.promises_queue.specs.Refused.{waitingIn}
 use Rattle.promises_classes.specs.Events.{History, packetsIn}
 use Rattle.promises_classes.specs.Rules.{Child, aClass, aFlow}
@@ -18,31 +18,6 @@ use Rattle.promises_classes.specs.Views.{parentOf, HangsFrom, wayFrom, w
 use Rattle.promises_classes.proofs.On.{same-self, on, on-cases, on-head, on-more, on-none, on-past}
 use Rattle.promises_classes.proofs.Ways.{Sound, sound-hangs, rest, way-sound, Reaches, reaches, on-up}
 use Rattle.promises_classes.proofs.Counts.{below-on}
-
--- a number that passes, where one of those from k on does
-any-told : (test : ℕ → Bool) (k n : ℕ) → anyFrom test k n ≡ true → (i : ℕ) × (k ≤ i) × (i < k + n) × (test i ≡ true)
-unfolding anyFrom
-any-told test k zero e = absurd (false≢true e)
-any-told test k (suc n) e = go (any-told test (suc k) n) (test k) refl e
-  where
-    go : (anyFrom test (suc k) n ≡ true → (i : ℕ) × (suc k ≤ i) × (i < suc k + n) × (test i ≡ true)) → (b : Bool) → test k ≡ b
-        → (b || anyFrom test (suc k) n) ≡ true → (i : ℕ) × (k ≤ i) × (i < k + suc n) × (test i ≡ true)
-    go ih true q r = (k, omega arith, omega arith, q)
-    go ih false q r = let w = ih r in let a = w .1 in let b = w .2 in (w .0, omega (arith, a), omega (arith, b), w .3)
-
--- and one of them does where such a number passes
-pub any-here : (test : ℕ → Bool) (i k n : ℕ) → k ≤ i → i < k + n → test i ≡ true → anyFrom test k n ≡ true
-unfolding anyFrom
-any-here test i k zero a b e = absurd (omega (arith, a, b))
-any-here test i k (suc n) a b e = go (any-here test i (suc k) n) (eqb k i) refl
-  where
-    or-true : (a : Bool) → (a || true) ≡ true
-    or-true true = refl
-    or-true false = refl
-
-    go : (suc k ≤ i → i < suc k + n → test i ≡ true → anyFrom test (suc k) n ≡ true) → (t : Bool) → eqb k i ≡ t → (test k || anyFrom test (suc k) n) ≡ true
-    go ih true q = rw (eqb-true k i q, e)
-    go ih false q = let n0 : k ≡ i → ⊥ = eqb-false k i q in rw (ih (omega (arith, n0, a)) (omega (arith, b)) e) (or-true (test k))
 
 module _ (p : Plan) (h : History) (x : Child) where
   -- a flow of which some packet waits, below a child that has something to send
@@ -58,7 +33,7 @@ module _ (p : Plan) (h : History) (x : Child) where
   told-sends : (i : ℕ) → i < 16 → below p x i ≡ true → 0 < waitingIn (packetsIn h) i → sends p h x ≡ true
   unfolding sends
   told-sends i l e w =
-      any-here (λ f. below p x f && ltb 0 (waitingIn (packetsIn h) f)) i 0 16 (omega arith) (omega (arith, l))
+      any-passes (λ f. below p x f && ltb 0 (waitingIn (packetsIn h) f)) i 0 16 (omega arith) (omega (arith, l))
       (rw (e, lt-ltb 0 (waitingIn (packetsIn h) i) w))
 
 -- the root has where any packet waits

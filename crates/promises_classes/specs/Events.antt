@@ -14,6 +14,7 @@ use Rattle.classes.specs.declared.Answer.the-variants.{Refused, Opened, Closed,
 use Rattle.promises_queue.specs.Packets.{Packets, noPackets}
 use Rattle.promises_queue.specs.Notes.{marked, noteOffer, noteService}
 
+-- what a call that was not refused has brought about
 pub data Event : Type 0 where
   -- a flow was opened with a weight, or closed
   opened : (flow weight : ℕ) → Event
@@ -24,10 +25,11 @@ pub data Event : Type 0 where
   began : (flow number length : ℕ) (start : Tag) → Event
   ceased : (flow number length : ℕ) → Event
 
+-- all that has happened
 abbrev pub History : Type 0
 History = List Event
 
--- an opening that was answered ok, a closing, and an offer that was answered a number
+-- an opening that was answered ok
 abbrev pub noteOpened : History → Call → History
 noteOpened h (Open flow weight) = opened flow weight ∷ h
 noteOpened h (Close flow) = h
@@ -35,6 +37,7 @@ noteOpened h (Offer flow length) = h
 noteOpened h Begin = h
 noteOpened h End = h
 
+-- a closing that was
 abbrev pub noteClosed : History → Call → History
 noteClosed h (Open flow weight) = h
 noteClosed h (Close flow) = closed flow ∷ h
@@ -42,6 +45,7 @@ noteClosed h (Offer flow length) = h
 noteClosed h Begin = h
 noteClosed h End = h
 
+-- an offer that was answered a number
 abbrev pub noteTaken : History → Call → ℕ → History
 noteTaken h (Open flow weight) number = h
 noteTaken h (Close flow) number = h
@@ -58,7 +62,8 @@ note h call (Taken number) = noteTaken h call number
 note h call (Begun flow number length start) = began flow number length start ∷ h
 note h call (Ended flow number length) = ceased flow number length ∷ h
 
--- what the events tell of the packets, as of any queue's; a packet of a class has no tags of its own
+-- What the events tell of the packets, as of any queue's. A packet of a class has no tags of its own, so its tags there are 0; and since refused
+-- calls are no events, a position is one among the events. No promise reads either.
 unfoldable pub packetsIn : History → Packets
 packetsIn [] = noPackets
 packetsIn (opened flow weight ∷ h) = marked (packetsIn h) (opens flow weight)

@@ -49,6 +49,7 @@ pub record Settled (p : Plan) (h : History) (flow number length : ℕ) (start : 
   pub lowest : number ≡ begunOf (packetsIn h .moments) flow
   pub startTold : start .0 ≡ startTag (seen p (classIn p flow) h) (aFlow flow)
 
+-- so of an answer: a refusal says nothing here, and a begin has no other answer
 abbrev pub BeginSettled : Plan → History → Answer → Type 0
 BeginSettled p h (Begun flow number length start) = Settled p h flow number length start
 BeginSettled p h (Refused r) = Unit {0}
@@ -62,6 +63,7 @@ unfoldable pub waitingFrom : Plan → History → Child → ℕ → ℕ → ℕ
 waitingFrom p h x k zero = 0
 waitingFrom p h x k (suc n) = cond (below p x k) (waitingIn (packetsIn h) k) 0 + waitingFrom p h x (suc k) n
 
+-- and of all sixteen
 abbrev pub waitingBelow : Plan → History → Child → ℕ
 waitingBelow p h x = waitingFrom p h x 0 16
 

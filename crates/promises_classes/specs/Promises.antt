@@ -20,6 +20,7 @@ use Rattle.promises_classes.specs.Refused.{groundsNoted}
 use Rattle.promises_classes.specs.Run.{run, answerTo}
 use Rattle.one_class.specs.OneClass.{OneClassFair}
 
+-- All that is promised.
 pub record ClassPromises : Type 0 where
   -- T1: a tree of one class is the fair lane
   pub T1 : OneClassFair

@@ -37,8 +37,8 @@ abbrev pub passesAt : Plan → History → ℕ → Child → Bool
 passesAt p h length x = ltb tagLimit (startTag (seen p (parentOf p x) h) x + length * chargeOf (weightOf p h x))
 
 -- an accepted packet is its flow's first not begun, and some finish on its way would pass the largest tag
-abbrev pub passesFor : Plan → History → ℕ → Packet → Bool
-passesFor p h f a =
+abbrev pub wouldPass : Plan → History → ℕ → Packet → Bool
+wouldPass p h f a =
     (eqb (a .flow) f && eqb (a .number) (begunOf (packetsIn h .moments) f)) && anyOf (passesAt p h (a .length)) (wayTo p f)
 
 -- each call; of a begin, what is noted of any queue, then that the flow that it comes to would pass
@@ -47,5 +47,5 @@ groundsNoted p h (Open flow weight) = openingNoted (packetsIn h) flow weight
 groundsNoted p h (Close flow) = closingNoted (packetsIn h) flow
 groundsNoted p h (Offer flow length) = waitingNoted (packetsIn h) flow length
 groundsNoted p h Begin =
-    beginNoted (packetsIn h) ++ (TagsUsedUp, anyFrom (λ f. comesTo p h f && anyOf (passesFor p h f) (packetsIn h .accepted)) 0 16) ∷ []
+    beginNoted (packetsIn h) ++ (TagsUsedUp, anyFrom (λ f. comesTo p h f && anyOf (wouldPass p h f) (packetsIn h .accepted)) 0 16) ∷ []
 groundsNoted p h End = endNoted (packetsIn h)

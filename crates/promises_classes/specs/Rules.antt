@@ -9,6 +9,7 @@ pub data Child : Type 0 where
   aClass : ℕ → Child
   aFlow : ℕ → Child
 
+-- two children are one
 abbrev pub same : Child → Child → Bool
 same (aClass j) (aClass k) = eqb j k
 same (aClass j) (aFlow f) = false

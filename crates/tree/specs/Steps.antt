@@ -44,23 +44,26 @@ isBeyond Beyond = true
 abbrev pub finishFor : Node → ℕ → Finish
 finishFor x length = finishOf (x .start) length (x .weight)
 
--- Begun below a child: its finish is worked out, and the class above it goes on to its start.
+-- Begun below a child: one waits less, and its finish is worked out.
 abbrev pub begunNode : ℕ → Node → Node
 begunNode length x = withTags x (x .waiting - 1) (x .start) (reached (x .finish) (finishFor x length))
 
+-- below the root one waits less
 abbrev pub begunRoot : Node → Node
 begunRoot x = withTags x (x .waiting - 1) (x .start) (x .finish)
 
+-- the class above it goes on to its start
 abbrev pub begunClass : Node → Class → Class
 begunClass x c = record { time = x .start; largest = c .largest }
 
--- Ended below a child: with more to send it starts at its last finish. The class above takes that finish into its largest, and goes on to
--- the largest where nothing waits below it any more.
+-- Ended below a child: with more to send it starts at its last finish.
 abbrev pub endedNode : Node → Node
 endedNode x = withTags x (x .waiting) (cond (eqb (x .waiting) 0) (x .start) (x .finish)) (x .finish)
 
+-- the largest finish of all that ended, this child's too
 abbrev pub largestEnded : Node → Class → Tag
 largestEnded x c = laterOf (c .largest) (x .finish)
 
+-- the class above it takes its finish, and goes on to the largest where nothing waits below that class any more
 abbrev pub endedClass : Node → Node → Class → Class
 endedClass x up c = record { time = cond (eqb (up .waiting) 0) (largestEnded x c) (c .time); largest = largestEnded x c }

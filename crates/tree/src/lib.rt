@@ -42,7 +42,7 @@ pub struct Tree {
 }
 
 impl Tree {
-    // The node of a flow: of one that is none of the sixteen, that of no class.
+    // The node of a flow, an empty one where there is no such flow.
     pub fn flow_node(self, flow: u64) -> Node
         ensures { λ r. ⌜ r ≡ nodeAt self (nodeOf flow) ⌝ }
     {
