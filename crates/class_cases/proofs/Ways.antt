@@ -20,7 +20,7 @@ use Rattle.one_class.specs.OneClass.{fairAnswers}
 use Rattle.promises_classes.specs.Events.{packetsIn}
 use Rattle.promises_classes.specs.Rules.{startTag}
 use Rattle.promises_classes.specs.Views.{anyOf, wayFrom, sends, childOn, seen}
-use Rattle.class_cases.specs.Noted.{lengthIn, begunNoted, answersNoted}
+use Rattle.promises_classes.specs.Answering.{lengthIn, begunNoted, answersNoted}
 use Rattle.class_cases.specs.Table.{served}
 use Rattle.class_cases.specs.Ways.{Ways}
 

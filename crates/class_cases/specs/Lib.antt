@@ -1,4 +1,3 @@
-pub mod Noted
 pub mod Table
 pub mod Fans
 pub mod Ways

@@ -12,7 +12,7 @@ use Rattle.classes.specs.declared.Call.{Call}
 use Rattle.classes.specs.declared.Call.the-variants.{Begin, End}
 use Rattle.classes.specs.Lane.{laneOf}
 use Rattle.classes.specs.Answers.{told}
-use Rattle.class_cases.specs.Noted.{answersNoted}
+use Rattle.promises_classes.specs.Answering.{answersNoted}
 use Rattle.classes.specs.Calls.{answers}
 
 -- a list filled up with zeros to n

@@ -23,4 +23,5 @@ pub mod Runs
 pub mod Account
 pub mod Comes
 pub mod Noted
+pub mod Answering
 pub mod Promises

@@ -148,7 +148,7 @@ module _ (p : Plan) (ok : Fits p) (u : Classes) (h : History) (g : LaneGood p u 
       )
 
   -- each call is refused as noted
-  refused-noted : (call : Call) → refusalIn (callOf u call .answer) ≡ firstOf (groundsNoted p h call)
+  pub refused-noted : (call : Call) → refusalIn (callOf u call .answer) ≡ firstOf (groundsNoted p h call)
   refused-noted (Open flow weight) =
       refused-first u (Open flow weight) ∙ sym (queue-first (u .queue) .opening flow weight) ∙ queue-noted (g .queue) .opening flow weight
   refused-noted (Close flow) =

@@ -4,6 +4,7 @@ use Rattle.one_class.proofs.OneClass.{one-class-fair}
 use Rattle.promises_classes.specs.Promises.{ClassPromises}
 use Rattle.promises_classes.proofs.Account.{t2-tags, t2-begin, t4-places, t4-counts, t5-offers, t5-numbers, t5-few, t5-ends, t5-terms, t5-time}
 use Rattle.promises_classes.proofs.Noted.{t3-noted}
+use Rattle.promises_classes.proofs.Answering.{t2-answers}
 
 pub class-promises : ClassPromises
 class-promises =
@@ -11,6 +12,7 @@ class-promises =
       T1 = one-class-fair;
       T2-tags = t2-tags;
       T2-begin = t2-begin;
+      T2-answers = t2-answers;
       T3-kind = answered-in-kind;
       T3-same = refused-same;
       T3-first = refused-first;

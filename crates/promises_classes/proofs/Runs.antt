@@ -79,6 +79,10 @@ module _ (p : Plan) (ok : Fits p) where
               (end-known p ok u h g busy) (end-serves p ok u h g busy),
         ))
 
+  -- so a call keeps a lane good
+  pub call-good : (u : Classes) (h : History) → LaneGood p u h → (call : Call) → LaneGood p (callOf u call .lane) (note h call (callOf u call .answer))
+  call-good u h g call = call-goes u h g call .0
+
   -- a run is good, and takes no virtual time back
   run-goes : (r : Run) → LaneGood p (r .lane) (r .history) → (calls : List Call)
       → LaneGood p (runFrom r calls .lane) (runFrom r calls .history) × Rises (r .history) (runFrom r calls .history)

@@ -1,6 +1,6 @@
 -- The promises of the class lane, over every tree that keeps the rules and every list of calls, unless it says otherwise.
 use mathlib.Core.Path.{_≡_}
-use mathlib.Core.List.{List, _++_}
+use mathlib.Core.List.{List, [], _++_}
 use Prim.Native.Nat.{ℕ, _<_, _≤_}
 use Rattle.units.specs.Limits.{tagLimit}
 use Rattle.units.specs.Refusals.{firstOf}
@@ -9,6 +9,8 @@ use Rattle.plans.specs.declared.Plan.{Plan}
 use Rattle.plans.specs.Plans.{Fits}
 use Rattle.classes.specs.declared.Call.{Call}
 use Rattle.classes.specs.declared.Call.the-variants.{Offer, Begin, End}
+use Rattle.classes.specs.Lane.{laneOf}
+use Rattle.classes.specs.Calls.{answers}
 use Rattle.classes.specs.Answers.{refusalIn}
 use Rattle.classes.specs.Laws.{AnsweredInKind, RefusedSame, RefusedFirst, GroundsInOrder}
 use Rattle.promises_queue.specs.Promised.{PlacesInOrder, PacketsNumbered, LastBegun, TermsStand}
@@ -17,6 +19,7 @@ use Rattle.promises_classes.specs.Rules.{virtualTime}
 use Rattle.promises_classes.specs.Views.{seen}
 use Rattle.promises_classes.specs.Promised.{RunsFair, BeginSettled, Counts, OfferNumbered}
 use Rattle.promises_classes.specs.Refused.{groundsNoted}
+use Rattle.promises_classes.specs.Answering.{answersNoted}
 use Rattle.promises_classes.specs.Run.{run, answerTo}
 use Rattle.one_class.specs.OneClass.{OneClassFair}
 
@@ -28,6 +31,8 @@ pub record ClassPromises : Type 0 where
   pub T2-tags : (p : Plan) → Fits p → (calls : List Call) (c : ℕ) → c < p .count → RunsFair p (run p calls .lane) (run p calls .history) c
   -- T2: and a begin is settled by going from a class to the child that goes first, until a flow is met
   pub T2-begin : (p : Plan) → Fits p → (calls : List Call) → BeginSettled p (run p calls .history) (answerTo p calls Begin)
+  -- T2: so the rules alone settle every answer: it is worked out from the tree, and from the calls and answers before it, and from no lane
+  pub T2-answers : (p : Plan) → Fits p → (calls : List Call) → answers (laneOf p) calls ≡ answersNoted p [] calls
   -- T3, in every state: answered in kind; refused exactly for the first ground that holds, in the rules' order; a refusal changes nothing
   pub T3-kind : AnsweredInKind
   pub T3-same : RefusedSame
