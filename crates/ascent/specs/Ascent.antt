@@ -24,13 +24,15 @@ climb step top (suc left) t k =
 abbrev pub wayUp : ℕ
 wayUp = 5
 
--- an offer
+-- an offer: at a child
 abbrev pub offerStep : Tree → ℕ → ℕ → Tree
 offerStep t k up = withNode t k (offeredNode (classAt t up .time) (nodeAt t k))
 
+-- at the root
 abbrev pub offerTop : Tree → ℕ → Tree
 offerTop t k = withNode t k (offeredRoot (nodeAt t k))
 
+-- on the whole way of a flow
 unfoldable pub offeredTo : Tree → ℕ → Tree
 offeredTo t flow = climb offerStep offerTop wayUp t (nodeOf flow)
 
@@ -42,25 +44,30 @@ passes (suc left) t k length =
     (cond (leb noParent (nodeAt t k .parent)) false
     (isBeyond (finishFor (nodeAt t k) length) || passes left t (nodeAt t k .parent) length))
 
+-- so on the whole way of a flow
 unfoldable pub passesFor : Tree → ℕ → ℕ → Bool
 passesFor t flow length = passes wayUp t (nodeOf flow) length
 
--- a begin of a packet of this length
+-- a begin of a packet of this length: at a child
 abbrev pub beginStep : ℕ → Tree → ℕ → ℕ → Tree
 beginStep length t k up = withTimes (withNode t k (begunNode length (nodeAt t k))) up (begunClass (nodeAt t k) (classAt t up))
 
+-- at the root
 abbrev pub beginTop : Tree → ℕ → Tree
 beginTop t k = withNode t k (begunRoot (nodeAt t k))
 
+-- on the whole way of its flow
 unfoldable pub begunFrom : Tree → ℕ → ℕ → Tree
 begunFrom t flow length = climb (beginStep length) beginTop wayUp t (nodeOf flow)
 
--- an end
+-- an end: at a child
 abbrev pub endStep : Tree → ℕ → ℕ → Tree
 endStep t k up = withTimes (withNode t k (endedNode (nodeAt t k))) up (endedClass (nodeAt t k) (nodeAt t up) (classAt t up))
 
+-- the root stays
 abbrev pub endTop : Tree → ℕ → Tree
 endTop t k = t
 
+-- on the whole way of a flow
 unfoldable pub endedFrom : Tree → ℕ → Tree
 endedFrom t flow = climb endStep endTop wayUp t (nodeOf flow)

@@ -27,12 +27,12 @@ abbrev pub firstBegun : Plan → History → ℕ → ℕ → Answer
 firstBegun p h flow number =
     Begun flow number (lengthIn (packetsIn h .accepted) flow number) (record { 0 = startTag (seen p (classIn p flow) h) (aFlow flow) })
 
--- a begin: of the n flows from f on, the first that it comes to
+-- a begin: of the n flows from f on, the first that it comes to; where it comes to none it has been refused before, for nothing waits
 unfoldable pub begunNoted : Plan → History → ℕ → ℕ → Answer
 begunNoted p h f zero = Refused NothingWaits
 begunNoted p h f (suc n) = cond (comesTo p h f) (firstBegun p h f (begunOf (packetsIn h .moments) f)) (begunNoted p h (suc f) n)
 
--- an end: the packet last begun
+-- an end: the packet last begun; where none is in service it has been refused before, for that
 abbrev pub endedNoted : List Moment → Answer
 endedNoted [] = Refused NothingInService
 endedNoted (began f n l s p ∷ ms) = Ended f n l
@@ -46,6 +46,7 @@ throughNoted p h (Offer flow length) = Taken (acceptedOf (packetsIn h) flow)
 throughNoted p h Begin = begunNoted p h 0 16
 throughNoted p h End = endedNoted (packetsIn h .moments)
 
+-- what a call is answered: the first ground that holds, and else this
 abbrev pub answerNoted : Plan → History → Call → Answer
 answerNoted p h call = unless Refused (firstOf (groundsNoted p h call)) (throughNoted p h call)
 
