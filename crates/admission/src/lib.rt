@@ -1,5 +1,7 @@
 // Admission: whether all that a lent list of flows declares can be sent in time. The list is read into a table by value, and the link
 // test is worked on plain numbers.
+#![tactic(auto)]
+
 ghost use Rattle.std.specs.Prelude.{◌≡◌, ◌≤◌, max, ltb};
 ghost use Rattle.link.specs.Demand.{demand_one, demand_of, least_failing};
 ghost use Rattle.link.specs.Rate.{rate_of, greatest_of};

@@ -1,6 +1,8 @@
 // The program: reads lists of declarations on standard input, one a line, and writes the verdict on each on standard output. What is
 // answered is the crate lists' to say.
 // A read or a write that fails ends it with a line on standard error: it has no exit status, and whoever starts it makes one of that line.
+#![tactic(auto)]
+
 ghost use Rattle.std.specs.Prelude.{◌≤◌, length};
 
 use libc::{STDERR_FILENO, STDIN_FILENO, STDOUT_FILENO};

@@ -1,4 +1,6 @@
 // The class lane from its description on: a tree is described, class by class and flow by flow, then set up, and then it answers calls.
+#![tactic(auto)]
+
 mod describing;
 mod hearing;
 mod telling;
@@ -16,7 +18,7 @@ pub struct Desk {
 }
 
 // What a desk is asked.
-#[derive(Drop)]
+#[derive(Clone, Copy)]
 pub enum Command {
     // One class more: the class that it hangs from, and its weight.
     Class(u64, u64),
@@ -28,7 +30,7 @@ pub enum Command {
 }
 
 // What it replies.
-#[derive(Drop)]
+#[derive(Clone, Copy)]
 pub enum Reply {
     Noted,
     Refused(Refusal),

@@ -1,4 +1,6 @@
 // Opening and closing the flows of the class lane.
+#![tactic(auto)]
+
 ghost use Rattle.std.specs.Prelude.{◌≡◌};
 ghost use Rattle.classes.specs.Calls.{open_of, close_of};
 

@@ -1,4 +1,6 @@
 // Offering packets to the class lane.
+#![tactic(auto)]
+
 ghost use Rattle.std.specs.Prelude.{◌≡◌};
 ghost use Rattle.classes.specs.Calls.{offer_of};
 

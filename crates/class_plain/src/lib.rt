@@ -1,4 +1,6 @@
 // An answer of the class lane in five plain numbers, for programs in other languages.
+#![tactic(auto)]
+
 ghost use Rattle.std.specs.Prelude.{◌≡◌};
 ghost use Rattle.class_plain.specs.Plain.{answer_of, planted_of};
 

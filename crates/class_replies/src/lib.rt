@@ -1,4 +1,6 @@
 // The line that a reply of the desk is written as.
+#![tactic(auto)]
+
 mod telling;
 
 ghost use Rattle.text.specs.Lines.{Placed};

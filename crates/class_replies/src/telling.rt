@@ -10,7 +10,7 @@ use classes::Answer;
 use units::Refusal;
 
 // Whether something was refused, and the first count of three numbers.
-#[derive(Drop)]
+#[derive(Clone, Copy)]
 pub(crate) struct Told {
     pub(crate) refused: bool,
     pub(crate) numbers: [u64; 3],

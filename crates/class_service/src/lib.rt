@@ -1,4 +1,6 @@
 // Serving the packets of the class lane: beginning one and ending it.
+#![tactic(auto)]
+
 ghost use Rattle.std.specs.Prelude.{◌≡◌};
 ghost use Rattle.classes.specs.Calls.{begin_of, end_of};
 

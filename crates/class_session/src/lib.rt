@@ -1,4 +1,6 @@
 // The session of the class program: bytes are cut into lines, each line is answered by the desk, and the replies are written as lines.
+#![tactic(auto)]
+
 mod answering;
 
 ghost use Rattle.std.specs.Prelude.{◌≡◌};

@@ -1,4 +1,6 @@
 // The class lane: a queue of packets whose flows hang from a tree of classes, each of which runs the fair rules among its children.
+#![tactic(auto)]
+
 use packets::Queue;
 use tree::Tree;
 use units::{Refusal, Tag};
@@ -12,7 +14,7 @@ pub struct Classes {
 }
 
 // Every call that a lane answers.
-#[derive(Drop)]
+#[derive(Clone, Copy)]
 pub enum Call {
     // Opens a flow: the flow and its weight.
     Open(u64, u64),
@@ -25,7 +27,7 @@ pub enum Call {
 }
 
 // What a call is answered.
-#[derive(Drop)]
+#[derive(Clone, Copy)]
 pub enum Answer {
     Refused(Refusal),
     Opened,

@@ -1,4 +1,6 @@
 // The way down the tree of classes, to the flow whose packet is begun next.
+#![tactic(auto)]
+
 ghost use Rattle.std.specs.Prelude.{◌≡◌};
 ghost use Rattle.places.specs.Choice.{comes_before, goes_first};
 ghost use Rattle.descent.specs.Descent.{is_child, key_of, least_child, place_in, descend_of, flow_met};

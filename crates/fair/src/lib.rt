@@ -1,4 +1,6 @@
 // The fair lane: a queue of packets that serves the smallest start tag first, and the virtual time that new packets are stamped by.
+#![tactic(auto)]
+
 ghost use Rattle.std.specs.Prelude.{◌≡◌};
 ghost use Rattle.fair.specs.Lane.{fresh_lane};
 ghost use Rattle.fair.specs.Calls.{open_of, close_of, offer_of, begin_of, end_of};

@@ -1,4 +1,6 @@
 // Runs the fair lane on the worked cases, on bad numbers, and on states written out that no session can reach.
+#![tactic(auto)]
+
 mod states;
 
 use fair::{Answer, Fair};

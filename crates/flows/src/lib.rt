@@ -1,4 +1,6 @@
 // The flows of a queue of packets: opening one and closing it.
+#![tactic(auto)]
+
 mod closing;
 mod opening;
 

@@ -1,1 +1,2 @@
 // What a client is sold, in one record, and its one proof: no code.
+#![tactic(auto)]

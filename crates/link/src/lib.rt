@@ -1,4 +1,6 @@
 // The link test as it is published: what a flow declares, what a list of declarations is told, and what is worked out of bare numbers.
+#![tactic(auto)]
+
 ghost use Rattle.std.specs.Prelude.{◌≡◌, ◌/◌};
 ghost use Rattle.link.specs.Limits.{bad_period};
 ghost use Rattle.link.specs.Verdicts.{admits, by_declaration};
@@ -6,7 +8,7 @@ ghost use Rattle.link.specs.Verdicts.{admits, by_declaration};
 use units::Refusal;
 
 // What a flow declares: burst cells at once and one more in each period, each wanted within deadline slots.
-#[derive(Drop)]
+#[derive(Clone, Copy)]
 pub struct Declaration {
     pub burst: u64,
     pub period: u64,
@@ -33,7 +35,7 @@ impl Declaration {
 
 // The answer to a list: admitted, the smallest slot count by which too much is due, that its periods bring more cells than there are
 // slots, the refusal of a list that is too long, or the refusal of the first bad declaration with its place, from 0.
-#[derive(Drop)]
+#[derive(Clone, Copy)]
 pub enum Verdict {
     Admitted,
     FailsAt(u64),

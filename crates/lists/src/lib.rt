@@ -1,4 +1,6 @@
 // Lists of declarations as lines: bytes are cut into lines, each line is judged by the link test, and the verdicts are written as lines.
+#![tactic(auto)]
+
 mod judging;
 mod taking;
 

@@ -8,7 +8,7 @@ use link::Declaration;
 
 // What is at hand of a line: whether it has a byte, whether it is no list's text, whether a number is begun and its value so far,
 // and how many numbers of its declaration were given before it, with those.
-#[derive(Drop)]
+#[derive(Clone, Copy)]
 pub struct Hand {
     pub some: bool,
     pub bad: bool,

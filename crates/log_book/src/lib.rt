@@ -1,4 +1,6 @@
 // The log of a session: bytes are cut into lines as the station's session cuts them, and each line's call is noted.
+#![tactic(auto)]
+
 mod hearing;
 
 ghost use Rattle.std.specs.Prelude.{◌≡◌};

@@ -1,4 +1,6 @@
 // The events of a log that was read, one by one, each cell with its own deadline.
+#![tactic(auto)]
+
 ghost use Rattle.std.specs.Prelude.{◌≡◌, ◌+◌, ◌*◌, ◌≤◌, ◌<◌, length};
 ghost use Rattle.log_format.specs.Own.{opening_deadline};
 ghost use Rattle.log_format.specs.Reading.{openings_at};

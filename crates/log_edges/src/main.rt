@@ -7,6 +7,8 @@
 //   `w`, three counts, the length of a room, so many numbers: what the writer says of a log of form Flow, and the room after it;
 //   `o`, the same for a log of form Own.
 // A case that is none of these, that is too large, or that the input cuts short ends the program with a line on standard error.
+#![tactic(auto)]
+
 mod input;
 mod output;
 mod reading;

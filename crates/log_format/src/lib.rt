@@ -1,4 +1,6 @@
 // The shift log: what it holds, which records are well formed, its bytes, and what is wrong with bytes that are no log.
+#![tactic(auto)]
+
 mod bytes;
 mod records;
 
@@ -12,14 +14,14 @@ pub use bytes::{four, two};
 pub use records::{bad_event, bad_opening, no_event, no_opening};
 
 // How a log tells a cell's deadline: as that of its flow's opening, or as the cell's own.
-#[derive(Drop)]
+#[derive(Clone, Copy)]
 pub enum Form {
     Flow,
     Own,
 }
 
 // Why bytes are no log.
-#[derive(Drop)]
+#[derive(Clone, Copy)]
 pub enum Fault {
     FirstByte,
     TableField,
@@ -29,7 +31,7 @@ pub enum Fault {
 }
 
 // What a log holds: its form, and how many records each body has.
-#[derive(Drop)]
+#[derive(Clone, Copy)]
 pub struct Contents {
     pub form: Form,
     pub urgent: usize,
@@ -38,14 +40,14 @@ pub struct Contents {
 }
 
 // What reading bytes gives: what the log holds, or what is wrong, and the place where it is.
-#[derive(Drop)]
+#[derive(Clone, Copy)]
 pub enum Verdict {
     Good(Contents),
     Refused(Fault, usize),
 }
 
 // What writing a log gives: the position of the first bad record, that the log is too long, or its length in bytes.
-#[derive(Drop)]
+#[derive(Clone, Copy)]
 pub enum Written {
     BadRecord(usize),
     TooLong,
@@ -53,14 +55,14 @@ pub enum Written {
 }
 
 // A record by its index, as a number, or that there is none.
-#[derive(Drop)]
+#[derive(Clone, Copy)]
 pub enum Found {
     Word(u32),
     Nothing,
 }
 
 // A place, counted from the log's start, or none.
-#[derive(Drop)]
+#[derive(Clone, Copy)]
 pub enum Place {
     At(usize),
     Nowhere,

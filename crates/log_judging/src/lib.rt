@@ -1,4 +1,6 @@
 // Which record of a log that is lent is the first bad one.
+#![tactic(auto)]
+
 ghost use Rattle.std.specs.Prelude.{◌≡◌, map};
 ghost use Rattle.log_format.specs.Format.{bad_opening, bad_event};
 ghost use Rattle.log_format.specs.Words.{opening_of, event_of, lent_log};

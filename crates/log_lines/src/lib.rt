@@ -1,4 +1,6 @@
 // The text that the log program writes: its answers as lines, and a log's records as the lines of a session.
+#![tactic(auto)]
+
 mod answers;
 mod placing;
 mod records;

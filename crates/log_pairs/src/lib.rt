@@ -1,4 +1,6 @@
 // Two shift logs beside each other: the tail of the longer one, and the first place where their events differ.
+#![tactic(auto)]
+
 mod bytes;
 mod openings;
 
@@ -11,7 +13,7 @@ use log_format::Place;
 use openings::common;
 
 // Where the events of two logs start, if the logs have the same first byte and openings.
-#[derive(Drop)]
+#[derive(Clone, Copy)]
 pub enum Common {
     Start(usize),
     Not,

@@ -1,4 +1,6 @@
 // Reading a shift log: what bytes hold, or what is wrong with them, and where.
+#![tactic(auto)]
+
 mod bodies;
 
 ghost use Rattle.std.specs.Prelude.{◌≡◌, length};

@@ -1,4 +1,6 @@
 // The records of a log that was read, one by one, by body and index.
+#![tactic(auto)]
+
 mod bodies;
 
 ghost use Rattle.std.specs.Prelude.{◌≡◌};

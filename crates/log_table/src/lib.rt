@@ -1,4 +1,6 @@
 // The start of a shift log: its first byte and its contents table, what is wrong with them, and what the table states.
+#![tactic(auto)]
+
 mod fields;
 mod scan;
 mod table;
@@ -12,7 +14,7 @@ pub use scan::Scan;
 pub use table::scan_start;
 
 // How many bytes the table says that each body has.
-#[derive(Drop)]
+#[derive(Clone, Copy)]
 pub struct Lengths {
     pub urgent: usize,
     pub fair: usize,

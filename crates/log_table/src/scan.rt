@@ -5,7 +5,7 @@ ghost use Rattle.log_table.specs.Scanning.{then_of};
 use log_format::Fault;
 
 // Nothing is wrong with a part of the bytes; or what is wrong, and where.
-#[derive(Drop)]
+#[derive(Clone, Copy)]
 pub enum Scan {
     Clean,
     Refused(Fault, usize),

@@ -1,4 +1,6 @@
 // The writer of the shift log: the bytes of the log that is lent, put into the room that is lent; or why not.
+#![tactic(auto)]
+
 mod placing;
 
 ghost use Rattle.std.specs.Prelude.{◌≡◌, length};

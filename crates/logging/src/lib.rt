@@ -1,4 +1,6 @@
 // What a station's calls are to the shift log, and what the log of a list of calls is.
+#![tactic(auto)]
+
 mod listing;
 mod sorting;
 
@@ -6,7 +8,7 @@ pub use listing::listed;
 pub use sorting::sort;
 
 // What a call is to the log: nothing; an opening, with its flow and its deadline or weight; a closing; or an event, with its word.
-#[derive(Drop)]
+#[derive(Clone, Copy)]
 pub enum Sorted {
     Beyond,
     OpensUrgent(usize, u16),

@@ -1,4 +1,6 @@
 // A queue of packets, as every lane of packets keeps one: the packet in service, sixteen flows, and sixteen places for each of them.
+#![tactic(auto)]
+
 mod choosing;
 mod quoting;
 
@@ -12,7 +14,7 @@ use units::{LAST_FLOW, Refusal, Tag};
 
 // The service: idle, or busy with the packet of this flow, number, length in bytes and finish tag.
 #[repr(C)]
-#[derive(Drop)]
+#[derive(Clone, Copy)]
 pub struct Service {
     pub busy: bool,
     pub flow: u64,
@@ -31,7 +33,7 @@ pub struct Queue {
 }
 
 // What a call is answered.
-#[derive(Drop)]
+#[derive(Clone, Copy)]
 pub enum Answer {
     Refused(Refusal),
     Opened,
@@ -45,7 +47,7 @@ pub enum Answer {
 }
 
 // The tags that a packet would get, and whether they and its number fit.
-#[derive(Drop)]
+#[derive(Clone, Copy)]
 pub struct Quote {
     pub fits: bool,
     pub start: Tag,

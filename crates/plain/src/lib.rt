@@ -1,4 +1,6 @@
 // A reply of the station in five plain numbers, for programs in other languages.
+#![tactic(auto)]
+
 ghost use Rattle.std.specs.Prelude.{◌≡◌};
 ghost use Rattle.station.specs.declared.Reply.TheVariants.{Urgent, Fair};
 ghost use Rattle.plain.specs.Plain.{answer_of};
@@ -7,7 +9,7 @@ use station::Reply;
 
 // What a call is answered: its kind, and what the rules name for that kind, in their order; the rest is 0.
 #[repr(C)]
-#[derive(Drop)]
+#[derive(Clone, Copy)]
 pub struct Answer {
     pub kind: u64,
     pub a: u64,

@@ -1,4 +1,6 @@
 // A tree of classes as it is described, and whether it keeps the rules.
+#![tactic(auto)]
+
 mod judging;
 
 ghost use Rattle.std.specs.Prelude.{◌≡◌};

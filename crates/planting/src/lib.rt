@@ -1,4 +1,6 @@
 // Setting up: the tree of classes that a description gives, and a lane with that tree.
+#![tactic(auto)]
+
 mod nodes;
 
 ghost use Rattle.std.specs.Prelude.{◌≡◌};
@@ -11,7 +13,7 @@ use plans::Plan;
 use units::Refusal;
 
 // What setting up is answered.
-#[derive(Drop)]
+#[derive(Clone, Copy)]
 pub enum Answer {
     Refused(Refusal),
     SetUp,

@@ -1,4 +1,6 @@
 // The places of a queue of packets: putting a packet that is offered.
+#![tactic(auto)]
+
 ghost use Rattle.std.specs.Prelude.{◌≡◌};
 ghost use Rattle.packets.specs.Calls.{put_of};
 

@@ -1,4 +1,6 @@
 // What a recorder has recorded, written as a shift log.
+#![tactic(auto)]
+
 ghost use Rattle.std.specs.Prelude.{◌≡◌, length};
 ghost use Rattle.log_writing.specs.Writing.{room_after};
 ghost use Rattle.recorded.specs.Recorded.{held_log, wrote_of};

@@ -1,4 +1,6 @@
 // The shift log of a station's calls, made as the calls come.
+#![tactic(auto)]
+
 ghost use Rattle.std.specs.Prelude.{◌≡◌, set};
 ghost use Rattle.logging.specs.Logging.{opened_with};
 ghost use Rattle.recorder.specs.Recording.{fresh_recorder, with_deadline, with_weight, counted, note_of, room_noted};

@@ -1,4 +1,6 @@
 // The line that a reply of the station is written as.
+#![tactic(auto)]
+
 mod writing;
 
 ghost use Rattle.text.specs.Lines.{Placed};

@@ -1,4 +1,6 @@
 // The service of a queue of packets: taking the first packet into it, and ending it.
+#![tactic(auto)]
+
 ghost use Rattle.std.specs.Prelude.{◌≡◌};
 ghost use Rattle.packets.specs.Queue.{by_start};
 ghost use Rattle.packets.specs.Calls.{begin_by, end_of};

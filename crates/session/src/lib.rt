@@ -1,4 +1,6 @@
 // The session: bytes are cut into lines, each line is answered by the station, and the answers are written as lines.
+#![tactic(auto)]
+
 mod answering;
 
 ghost use Rattle.std.specs.Prelude.{◌≡◌};

@@ -1,11 +1,13 @@
 // The shape of a line: a letter, and up to two numbers with one blank before each.
+#![tactic(auto)]
+
 ghost use Rattle.std.specs.Prelude.{◌≡◌};
 ghost use Rattle.shapes.specs.Shapes.{shape_of};
 
 use text::Field;
 
 // A letter alone, a letter and one number, a letter and two; or none of these.
-#[derive(Drop)]
+#[derive(Clone, Copy)]
 pub enum Shape {
     Word(u8),
     One(u8, u64),

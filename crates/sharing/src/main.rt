@@ -1,6 +1,8 @@
 // The class program: reads a session on standard input and writes its replies on standard output. What is answered is the crate class_session's
 // to say.
 // A read or a write that fails ends it with a line on standard error: it has no exit status, and whoever starts it makes one of that line.
+#![tactic(auto)]
+
 ghost use Rattle.std.specs.Prelude.{◌≤◌, length};
 
 use class_session::Session;

@@ -2,6 +2,8 @@
 // answers on standard output; `write` reports on standard error, since its output is the log. What is answered is the libraries' to say.
 // What cannot be written, and a command that there is not, is told on standard error. A read that fails is the end of the input to it:
 // whoever starts it has the input whole.
+#![tactic(auto)]
+
 mod making;
 mod output;
 mod reading;

@@ -3,8 +3,8 @@ ghost use Rattle.std.specs.Prelude.{◌≤◌, length};
 
 use crate::output::answer;
 use libc::{STDERR_FILENO, STDIN_FILENO};
-use log_format::Written;
 use log_book::Logbook;
+use log_format::Written;
 use recorder::Recorder;
 
 // Writes the log of a session whose first bytes are at hand, and reports its length; or that it is too long.

@@ -1,4 +1,6 @@
 // The station: an urgent lane and a fair lane in one state, which every call takes by value and hands back beside the reply.
+#![tactic(auto)]
+
 ghost use Rattle.std.specs.Prelude.{◌≡◌};
 ghost use Rattle.urgent.specs.Calls.{turn_of};
 ghost use Rattle.urgent.specs.Calls.{open_of as open_urgent_of};
@@ -22,7 +24,7 @@ pub struct Station {
 }
 
 // Every call that a station answers.
-#[derive(Drop)]
+#[derive(Clone, Copy)]
 pub enum Call {
     // Opens a flow of the urgent lane: the flow and its deadline.
     OpenUrgent(u64, u64),
@@ -43,7 +45,7 @@ pub enum Call {
 }
 
 // What a call is answered, by the lane that it went to.
-#[derive(Drop)]
+#[derive(Clone, Copy)]
 pub enum Reply {
     Urgent(urgent::Answer),
     Fair(fair::Answer),

@@ -1,4 +1,6 @@
 // What every fair queue shares: a flow's record, a packet's, and the tags of a packet that is offered.
+#![tactic(auto)]
+
 ghost use Rattle.std.specs.Prelude.{◌≡◌, ltb};
 ghost use Rattle.tags.specs.Tags.{later_of, finish_of};
 
@@ -6,7 +8,7 @@ use units::{TAG_LIMIT, Tag};
 
 // A flow: whether it is open, its weight, the number of its next packet, and the finish tag of its last.
 #[repr(C)]
-#[derive(Drop)]
+#[derive(Clone, Copy)]
 pub struct Flow {
     pub opened: bool,
     pub weight: u64,
@@ -16,7 +18,7 @@ pub struct Flow {
 
 // A place: free, or held by the waiting packet of this number, length in bytes, start tag and finish tag.
 #[repr(C)]
-#[derive(Drop)]
+#[derive(Clone, Copy)]
 pub struct Packet {
     pub held: bool,
     pub number: u64,
@@ -26,7 +28,7 @@ pub struct Packet {
 }
 
 // Where a packet would finish.
-#[derive(Drop)]
+#[derive(Clone, Copy)]
 pub enum Finish {
     At(Tag),
     // No packet has this length, or its finish would pass the largest tag.

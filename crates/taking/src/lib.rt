@@ -1,4 +1,6 @@
 // The service of a queue whose flow is settled elsewhere: taking that flow's packet of least number.
+#![tactic(auto)]
+
 ghost use Rattle.std.specs.Prelude.{◌≡◌};
 ghost use Rattle.places.specs.Choice.{comes_before, goes_first};
 ghost use Rattle.tags.specs.Tags.{is_held};

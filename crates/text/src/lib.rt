@@ -1,4 +1,6 @@
 // What a line of text is, for every program: decimals with one blank before each, read at a place and written at a place.
+#![tactic(auto)]
+
 mod reading;
 mod writing;
 
@@ -6,7 +8,7 @@ pub use reading::{digit, goes_on, number};
 pub use writing::{line, part};
 
 // A number and the place where it ends, or none.
-#[derive(Drop)]
+#[derive(Clone, Copy)]
 pub enum Field {
     Number(u64, usize),
     Missing,

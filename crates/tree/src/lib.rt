@@ -1,4 +1,6 @@
 // The tree of classes: what each class and each flow is to the class that it hangs from, and the times that each class runs by.
+#![tactic(auto)]
+
 mod steps;
 
 ghost use Rattle.std.specs.Prelude.{◌≡◌};
@@ -13,7 +15,7 @@ use units::{LAST_FLOW, Tag};
 // What a class or a flow is to the class that it hangs from: that class, its weight there, how many packets wait below it, its start and its
 // last finish.
 #[repr(C)]
-#[derive(Drop)]
+#[derive(Clone, Copy)]
 pub struct Node {
     pub parent: u64,
     pub weight: u64,
@@ -24,7 +26,7 @@ pub struct Node {
 
 // The virtual time of a class, and the largest finish of all that ended below it.
 #[repr(C)]
-#[derive(Drop)]
+#[derive(Clone, Copy)]
 pub struct Class {
     pub time: Tag,
     pub largest: Tag,

@@ -1,5 +1,7 @@
 // The program: reads a session on standard input and writes its answers on standard output. What is answered is the crate session's to say.
 // A read or a write that fails ends it with a line on standard error: it has no exit status, and whoever starts it makes one of that line.
+#![tactic(auto)]
+
 ghost use Rattle.std.specs.Prelude.{◌≤◌, length};
 
 use libc::{STDERR_FILENO, STDIN_FILENO, STDOUT_FILENO};

@@ -1,4 +1,6 @@
 // The station and the class lane for programs in C: each call by value, and its answer as five plain numbers.
+#![tactic(auto)]
+
 mod sharing;
 
 ghost use Rattle.std.specs.Prelude.{◌≡◌};

@@ -1,4 +1,6 @@
 // What the station counts in, the limit of every number, and the refusals.
+#![tactic(auto)]
+
 ghost use Rattle.std.specs.Prelude.{◌≡◌, ◌+◌, nat_lt};
 ghost use Rattle.units.specs.Limits.{outside_of, bad_weight, bad_deadline, bad_length};
 ghost use Rattle.units.specs.Refusals.{number_of};
@@ -7,16 +9,16 @@ ghost use Rattle.units.specs.Radio.{slots_passed};
 
 // A turn of the radio, counted from 0.
 #[repr(C)]
-#[derive(Drop)]
+#[derive(Clone, Copy)]
 pub struct Slot(pub u64);
 
 // A moment of the fair lane, counted in shares of a byte: 720,720 to a byte at weight 1.
 #[repr(C)]
-#[derive(Drop)]
+#[derive(Clone, Copy)]
 pub struct Tag(pub u64);
 
 // Why a call was refused.
-#[derive(Drop)]
+#[derive(Clone, Copy)]
 pub enum Refusal {
     NoSuchFlow,
     NotOpen,

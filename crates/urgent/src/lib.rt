@@ -1,4 +1,6 @@
 // The urgent lane: sixteen flows with sixteen places each, and one cell sent in each open turn, the one with the earliest last slot.
+#![tactic(auto)]
+
 mod closing;
 mod offering;
 mod slots;
@@ -12,7 +14,7 @@ use units::{LAST_FLOW, Refusal, Slot};
 
 // A place: free, or held by the waiting cell of this number and last slot.
 #[repr(C)]
-#[derive(Drop)]
+#[derive(Clone, Copy)]
 pub struct Cell {
     pub held: bool,
     pub number: u64,
@@ -21,7 +23,7 @@ pub struct Cell {
 
 // A flow: whether it is open, its deadline in slots, and the number of its next cell.
 #[repr(C)]
-#[derive(Drop)]
+#[derive(Clone, Copy)]
 pub struct Flow {
     pub opened: bool,
     pub deadline: u64,
@@ -38,7 +40,7 @@ pub struct Urgent {
 }
 
 // What a call is answered.
-#[derive(Drop)]
+#[derive(Clone, Copy)]
 pub enum Answer {
     Refused(Refusal),
     Opened,

@@ -1,4 +1,6 @@
 // Runs the urgent lane on the worked cases, on bad numbers, and on states written out that no session can reach.
+#![tactic(auto)]
+
 use libc::STDOUT_FILENO;
 use units::Slot;
 use urgent::{Answer, Cell, Flow, Urgent};
