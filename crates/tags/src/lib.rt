@@ -53,6 +53,7 @@ pub fn later(a: Tag, b: Tag) -> Tag
 }
 
 // Where a packet of this length that starts at `start` would finish, in a flow of this weight.
+#[tactic(auto, unfolding(crate::specs::Tags::finish_of))]
 pub fn finish_of(start: Tag, length: u64, weight: u64) -> Finish
     ensures { result ≡ finish_of start length weight }
 {
