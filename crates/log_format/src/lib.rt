@@ -90,6 +90,7 @@ impl Form {
     }
 
     // The form that a first byte tells.
+    #[tactic(auto, unfolding(crate::specs::Faults::form_of))]
     pub fn told_by(byte: u8) -> Form
         ensures { result ≡ form_of byte }
     {
