@@ -69,10 +69,10 @@ module _ (a b : List ℕ) (x y : Contents) (g : Whole x ≡ verdict_of (read_of 
 
   pub fair_within : x.urgent ≡ y.urgent → x.fair ≡ y.fair
       → (25 + 3 * x.urgent + 3 * x.fair ≤ length a) × (25 + 3 * x.urgent + 3 * x.fair ≤ length b)
-  fair_within e f = (omega (arith, H.urgent_long, H.Fair-long, H.all), omega (arith, e, f, K.urgent_long, K.Fair-long, K.all))
+  fair_within e f = (omega (arith, H.urgent_long, H.fair_long, H.all), omega (arith, e, f, K.urgent_long, K.fair_long, K.all))
 
   pub small : 25 + 3 * x.urgent + 3 * x.fair ≤ most_bytes
-  small = omega (arith, H.urgent_long, H.Fair-long, H.most)
+  small = omega (arith, H.urgent_long, H.fair_long, H.most)
 
   module _ (u w : ℕ) (is_u : u ≡ first_byte x.form) (is-w : w ≡ first_byte y.form) where
     pub other_first : (u ≡ w → ⊥) → false ≡ same_start (log_at a) (log_at b)
@@ -123,7 +123,7 @@ module _ (a b : List ℕ) (x y : Contents) (g : Whole x ≡ verdict_of (read_of 
   pub common_start : (t : Bool) → t ≡ same_start (log_at a) (log_at b) → t ≡ true → Start (25 + 3 * x.urgent + 3 * x.fair) ≡ common_of a b
   common_start t is alike =
       let c : comparable a b ≡ true = both_read ∙ sym is ∙ alike in
-      let s : 25 + 3 * x.urgent + 3 * x.fair ≡ event_start a = omega (arith, H.urgent_long, H.Fair-long) in
+      let s : 25 + 3 * x.urgent + 3 * x.fair ≡ event_start a = omega (arith, H.urgent_long, H.fair_long) in
       rw c (ap Start s)
 
   pub common_not : (t : Bool) → t ≡ same_start (log_at a) (log_at b) → t ≡ false → Not ≡ common_of a b

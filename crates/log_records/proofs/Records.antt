@@ -40,7 +40,7 @@ module _ (s : List ℕ) (reads : read_of s ≡ Good (log_at s)) where
   fair_start_lem = omega (arith, H.urgent_long)
 
   event_start_lem : 25 + 3 * c.urgent + 3 * c.fair ≡ event_start s
-  event_start_lem = omega (arith, H.urgent_long, H.Fair-long)
+  event_start_lem = omega (arith, H.urgent_long, H.fair_long)
 
   urgent : (k : ℕ) (d : Opening) → k < c.urgent → urgent_found s c k ≡ Word (opening_word (get_or (log_at s).urgent k d))
   urgent k d l =
@@ -51,7 +51,7 @@ module _ (s : List ℕ) (reads : read_of s ≡ Good (log_at s)) where
   fair k d l =
       ap (λ (x : ℕ). opening_in s x c.fair k) fair_start_lem
       ∙ ap (λ (n : ℕ). opening_in s (fair_start s) n k) H.fair
-      ∙ opening_is s (fair_start s) (fair_length s / 3) k d (omega (arith, l, H.fair)) (omega (arith, H.fair, H.Fair-long, H.all))
+      ∙ opening_is s (fair_start s) (fair_length s / 3) k d (omega (arith, l, H.fair)) (omega (arith, H.fair, H.fair_long, H.all))
 
   events : (k : ℕ) (d : Event) → k < c.events → event_found s c k ≡ Word (event_word (get_or (log_at s).events k d))
   events k d l =
