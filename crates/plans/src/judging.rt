@@ -53,6 +53,7 @@ fn not_lower_lem(plan: Plan, class: u64) -> bool
 }
 
 // Whether a class is at depth 5 or more.
+#[tactic(auto, unfolding(crate::specs::Plans::deeper))]
 fn five_deep(plan: Plan, class: u64) -> bool
     ensures { result ≡ deeper 4 plan class }
 {

@@ -11,7 +11,7 @@ pub use judging::broken;
 // How many classes there are, what each hangs from, its weight, and the class of each flow. What class 0, the root, hangs from is not read,
 // nor is what stands from the count on.
 #[repr(C)]
-#[derive(Drop)]
+#[derive(Clone, Copy)]
 pub struct Plan {
     pub count: u64,
     pub parents: [u64; 31],
