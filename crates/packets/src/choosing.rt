@@ -20,6 +20,7 @@ pub fn goes_first(p: Packet, k: usize, b: Packet, j: usize) -> bool
 }
 
 // Whether the waiting packet p at place k goes before the waiting packet b at place j.
+#[tactic(auto, unfolding(places::specs::Choice::comes_before))]
 fn goes_before(p: Packet, k: usize, b: Packet, j: usize) -> bool
     ensures { result ≡ comes_before (key_by by_start k p) (key_by by_start j b) }
 {

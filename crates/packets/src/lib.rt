@@ -114,6 +114,7 @@ impl Queue {
     }
 
     // How many packets wait.
+    #[tactic(auto, unfolding(places::specs::Places::count))]
     pub fn waiting(self) -> u64
         ensures { result ≡ waiting self }
     {

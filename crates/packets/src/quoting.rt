@@ -7,6 +7,7 @@ use tags::{Finish, Flow};
 use units::{TAG_LIMIT, Tag};
 
 // Where a packet of this length would start and finish, offered to the flow at this time.
+#[tactic(auto, unfolding(crate::specs::Quotes::quote_of))]
 pub fn quote_of(was: Flow, time: Tag, length: u64) -> Quote
     ensures { result ≡ quote_of was time length }
 {
