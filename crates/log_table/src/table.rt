@@ -25,6 +25,7 @@ pub fn scan_start(log: &[u8]) -> Scan
 }
 
 // What is found in the first byte.
+#[tactic(auto, unfolding(log_format::specs::Reading::first_fault))]
 fn first(log: &[u8]) -> Scan
     ensures { result ≡ found_in (length log.now) (first_part log.now) }
 {
@@ -38,6 +39,7 @@ fn first(log: &[u8]) -> Scan
 }
 
 // What is found in a field of the table, where n bytes are there.
+#[tactic(auto, unfolding(log_format::specs::Reading::first_fault))]
 fn field(n: usize, at: usize, bad: bool) -> Scan
     requires { at ≤ 21 }
     ensures { result ≡ found_in n (field at bad) }
