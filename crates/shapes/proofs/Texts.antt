@@ -7,7 +7,7 @@ use Prim.Native.Nat.{ℕ, ◌≤◌}
 use native.Mathlib.Omega.{arith}
 use borrow.Author.Tests.{eqb-true}
 use lib.Dec.{eqb}
-use lib.ListN.{length, length-append}
+use lib.ListN.{length-append}
 use Rattle.text.specs.Decimal.{decimal_of}
 use Rattle.text.specs.Reading.{blank, largest, Taken, read_number}
 use Rattle.text.proofs.Decimal.{ten_digits}
