@@ -9,8 +9,8 @@ import time
 import entry
 from support import ROOT, fail, folder, run, start
 
-LOW = '// One.\npub fn one() -> u64 {\n    1\n}\n'
-MAIN = '// Writes one.\nfn main() {\n    io::print_decimal(libc::STDOUT_FILENO, low::one());\n}\n'
+LOW = '// One.\n#![tactic(auto)]\n\npub fn one() -> u64 {\n    1\n}\n'
+MAIN = '// Writes one.\n#![tactic(auto)]\n\nfn main(rt: HostRuntime) -> std::io::Result<()> {\n    let one = low::one();\n    print!(rt; "{one}")\n}\n'
 PROGRESS = b'tuhkeliar: proving and building tuhkeliar: 2 crates\n[1/2] low\n[2/2] tuhkeliar\n'
 
 
@@ -19,8 +19,9 @@ def small(at):
     shutil.copytree(ROOT / 'tools', at / 'tools')
     shutil.copy(ROOT / 'tuhkeliar', at / 'tuhkeliar')
     for name, text in (
-        ('crates.txt', '# the program is last\nlow:\nother: low\ntuhkeliar: low io libc\n'),
+        ('crates.txt', '# the program is last\nlow:\nother: low\ntuhkeliar: low\n'),
         ('crates/low/src/lib.rt', LOW),
+        ('crates/other/src/lib.rt', LOW),
         ('crates/tuhkeliar/src/main.rt', MAIN),
         ('crates/tuhkeliar/stdout', '1'),
     ):
@@ -70,7 +71,7 @@ def first_run():
     lines = said.decode().split('\n')
     if status == 0 or wrote != b'' or lines[1] != '[1/2] low: not proved' or str(log) not in lines[-2]:
         fail('a crate that is not proved: status %d, wrote %r, said %r' % (status, wrote, said))
-    if 'rt: low NOT PROVED' not in log.read_text():
+    if 'logic=not-proved' not in log.read_text():
         fail('the log of a failure lacks what rt said')
     return 'the first run tells what it builds, the next says nothing, and a failure names what rt said'
 
@@ -80,7 +81,7 @@ def ended_early():
     room = folder()
     home = small(room / 'small')
     ended = start([home / 'tuhkeliar'], stdin=subprocess.DEVNULL, stdout=subprocess.PIPE, stderr=subprocess.PIPE)
-    within(60, 'the build does not set out', (home / 'target' / 'log' / 'low.say').exists)
+    within(60, 'the build does not set out', (home / 'crates' / 'low' / 'out').exists)
     os.kill(ended.pid, signal.SIGTERM)
     if ended.wait() != -signal.SIGTERM:
         fail('a build ended early has status %d' % ended.returncode)
@@ -88,7 +89,7 @@ def ended_early():
     for number in (signal.SIGTERM, signal.SIGINT):
         temporary = folder()
         ended = start([ROOT / 'tests' / 'run', 'types'], stdin=subprocess.DEVNULL, stdout=subprocess.PIPE, stderr=subprocess.PIPE, env={**os.environ, 'TMPDIR': str(temporary)})
-        within(60, 'the test does not set out', lambda: list(temporary.glob('*/*/target/log/units.say')))
+        within(60, 'the test does not set out', lambda: list(temporary.glob('*/*/crates/units/out')))
         os.kill(ended.pid, number)
         said = ended.communicate()[1]
         if ended.returncode != 128 + number or said != b'tests/run: types: ended early\n':

@@ -6,10 +6,10 @@ from support import ROOT, fail, folder, run
 
 PROGRAMS = tuple(sorted(path.parent.parent.name for path in (ROOT / 'crates').glob('*/src/main.rt')))
 # What is not run: comments, imports of definitions, and the clauses of contracts.
-UNRUN = re.compile(r'//.*|\bghost use [^;]*;|\b(requires|ensures) \{[^⌝]*⌝ \}')
+UNRUN = re.compile(r'//.*|\bghost use [^;]*;|\b(requires|ensures)( \w+)? \{(?:[^{}]|\{[^{}]*\})*\}')
 DIVIDES = re.compile(r'^.*\t.*\b[a-z]*div[a-z]*\b.*$', re.M)
 # Code that divides, and an instruction that does: what has to be found.
-WRITTEN = '// a / b\nfn f(a: u64, b: u64) -> u64 ensures { λ r. ⌜ r ≡ a\n/ b ⌝ } { a / b } // c\n    a %= b;\n'
+WRITTEN = '// a / b\nfn f(a: u64, b: u64) -> u64 ensures { result ≡ a\n/ b } { a / b } // c\n    a %= b;\n'
 BUILT = bytes.fromhex('48f7f1')
 
 

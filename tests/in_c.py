@@ -36,10 +36,9 @@ def built(source, name):
     program = folder() / name
     warned = ['-O2', '-std=c11', '-Wall', '-Wextra', '-Werror', '-I', ROOT / 'include']
     linked = [compiler(), *warned, source, '-L', ROOT / 'target' / 'staticlib', '-ltuhkeliar_c', '-o', program]
-    for command in (['rt', 'staticlib', 'tuhkeliar_c'], linked):
-        status, wrote, said = run(command, cwd=ROOT)
-        if status != 0:
-            fail('%s ended with status %d:\n%s' % (command[0], status, (wrote + said).decode()))
+    status, wrote, said = run(linked, cwd=ROOT)
+    if status != 0:
+        fail('%s ended with status %d:\n%s' % (linked[0], status, (wrote + said).decode()))
     return program
 
 
