@@ -9,7 +9,7 @@ use native.Mathlib.Omega.{arith}
 use borrow.Author.Tests.{ltb-true, ltb-false}
 use lib.ListN.{length, get_or}
 use Rattle.units.specs.declared.Refusal.{Refusal}
-use Rattle.units.specs.declared.Refusal.TheVariants.{ListTooLong, BadBurst, BadPeriod, BadDeadline}
+use Rattle.units.specs.declared.Refusal.TheVariants.{NoSuchFlow, NotOpen, AlreadyOpen, PlacesFull, TagsUsedUp, SlotsUsedUp, PacketInService, NothingWaits, NothingInService, NoCommand, FlowInUse, BadWeight, BadLength, ListTooLong, BadBurst, BadPeriod, BadDeadline, BadTree}
 use Rattle.link.specs.declared.Declaration.{Declaration}
 use Rattle.link.specs.declared.Verdict.{Verdict}
 use Rattle.link.specs.declared.Verdict.TheVariants.{Admitted, FailsAt, Rate, Refused, RefusedAt}
@@ -62,6 +62,21 @@ why_found ds few _ q (one refusal k place e l ws x) =
     go BadBurst (burst b) = bad17 k (record { few = few; place = l; bad = b; before = ws })
     go BadPeriod (period b) = bad18 k (record { few = few; place = l; bad = b; before = ws })
     go BadDeadline (deadline b) = bad14 k (record { few = few; place = l; bad = b; before = ws })
+    go NoSuchFlow x = elim x [ ]
+    go NotOpen x = elim x [ ]
+    go AlreadyOpen x = elim x [ ]
+    go PlacesFull x = elim x [ ]
+    go TagsUsedUp x = elim x [ ]
+    go SlotsUsedUp x = elim x [ ]
+    go PacketInService x = elim x [ ]
+    go NothingWaits x = elim x [ ]
+    go NothingInService x = elim x [ ]
+    go NoCommand x = elim x [ ]
+    go FlowInUse x = elim x [ ]
+    go BadWeight x = elim x [ ]
+    go BadLength x = elim x [ ]
+    go ListTooLong x = elim x [ ]
+    go BadTree x = elim x [ ]
 
 pub why : (ds : List Declaration) → Why ds (admit_of ds)
 why ds = go (too_long ds) refl
