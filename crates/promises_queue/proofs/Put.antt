@@ -85,13 +85,13 @@ module _
 
   -- what the calls and answers tell is still in order
   pub ordered_put : Ordered (new_packet q marks flow bytes quote position ∷ ps) ms
-  unfolding count
+  unfolding count new
   ordered_put =
       record {
         numbered = numbered_put;
         in_order = t.in_order;
         begun = λ f. omega (arith, t.begun f);
-        known = known_more _ ps numbered_put ms t.known;
+        known = known_more new ps numbered_put ms t.known;
       }
 
   -- the flow's record then
