@@ -7,7 +7,7 @@ use native.Mathlib.Nat.{div-le_self}
 use native.Mathlib.Numerals.{add-one}
 use native.Mathlib.Omega.{arith}
 use lib.Dec.{ltb, leb}
-use lib.ListN.{length, length-map, drop, get_or, drop_of_length-le}
+use lib.ListN.{length, drop, get_or, drop_of_length-le}
 use lib.Seq.{drop-cons, get_or-take, length-take-le}
 use mir.Val.{Val}
 use denote.Laws.{Is}
@@ -27,7 +27,7 @@ use Rattle.link.proofs.Searched.{passes, fails, ends}
 
 -- a table that is owned has sixteen places
 pub sixteen : (table : Table) (vs : List Val) → Is S.the_row table vs → length table.items ≡ 16
-sixteen table vs is = sym (length-map table.items _) ∙ (LL.owed S.the_type S'.the_laws table vs is).1.0.1.0.1
+sixteen table vs is = (LL.owed S.the_type S'.the_laws table vs is).1.0.1.0.1
 
 -- one turn of a loop over a table: the declaration at k, and those after it
 module _ (table : Table) (len : length table.items ≡ 16) (few : table.count ≤ 16) (k : ℕ) where
