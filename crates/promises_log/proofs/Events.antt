@@ -11,7 +11,7 @@ use Rattle.station.specs.declared.Reply.{Reply}
 use Rattle.station.specs.declared.Call.{Call}
 use Rattle.station.specs.declared.Call.TheVariants.{OpenUrgent, OpenFair}
 use Rattle.station.specs.Calls.{call_of}
-use Rattle.promises.specs.Run.{Run, run_from, replies}
+use Rattle.promises.specs.Run.{Run, after, run_from, replies}
 use Rattle.logging.specs.Sorts.{Sort, beyond, opens_urgent, opens_fair, closes, happens, sort_of}
 use Rattle.logging.specs.Logging.{Opened, with_urgent, with_fair, events_by, events_of}
 use Rattle.logging.specs.Replay.{call_in}
@@ -39,7 +39,7 @@ station_append s (x ∷ xs) ys = station_append (call_of s x).station xs ys
 pub run_station : (r : Run) (calls : List Call) → (run_from r calls).station ≡ station_from r.station calls
 unfolding run_from station_from
 run_station r [] = refl
-run_station r (call ∷ calls) = run_station _ calls
+run_station r (call ∷ calls) = run_station (after r call) calls
 
 -- ---- the events are the marked calls
 picked_on : (calls : List Call) → map call_in (events_of calls) ≡ pick (marks_from true calls) calls

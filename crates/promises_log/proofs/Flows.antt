@@ -23,7 +23,7 @@ use Rattle.station.specs.declared.Call.TheVariants.{OfferCell, OfferPacket, Open
 use Rattle.station.specs.Calls.{call_of, by_urgent}
 use Rattle.promises_urgent.specs.Cells.{Cells, deadline_in}
 use Rattle.promises_urgent.specs.Notes.{note_offer, note_turn}
-use Rattle.promises.specs.Run.{Run, note_cells, run, run_from, fresh}
+use Rattle.promises.specs.Run.{Run, note_cells, run, after, run_from, fresh}
 use Rattle.promises.proofs.Run.{good_run}
 use Rattle.promises.proofs.Promises.{promises}
 use Rattle.log_format.specs.declared.Form.{Form}
@@ -76,7 +76,7 @@ event_marks h e (Urgent a) = go (eqb e.kind 0) (eqb e.kind 1) (eqb e.kind 2) (eq
 events_marks : (r : Run) (es : List Event) → (run_from r (map call_in es)).cells.marks ≡ r.cells.marks
 unfolding run_from
 events_marks r [] = refl
-events_marks r (e ∷ es) = events_marks _ es ∙ event_marks r.cells e (call_of r.station (call_in e)).reply
+events_marks r (e ∷ es) = events_marks (after r (call_in e)) es ∙ event_marks r.cells e (call_of r.station (call_in e)).reply
 
 -- ---- a flow that was opened is listed with its number
 listed_number : (start : ℕ) (ns : List ℕ) (i flow : ℕ) → flow ≡ start + i → eqb (get_or ns i 0) 0 ≡ false → opening_deadline (listed start ns) flow ≡ get_or ns i 0
