@@ -7,6 +7,7 @@ use tags::Flow;
 use units::{LAST_FLOW, Refusal};
 
 // Closes a flow that has no packet waiting and none in service. Its numbers and its last finish go on when it is opened again.
+#[tactic(auto, unfolding(packets::specs::Calls::close_of, units::specs::Refusals::first_of, places::specs::Places::count))]
 pub fn close(queue: Queue, flow: u64) -> Flows
     ensures { result ≡ close_of queue flow }
 {
