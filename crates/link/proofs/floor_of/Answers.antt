@@ -1,0 +1,26 @@
+-- `link::floor_of` meets its contract: the steps of both loops are the lemmas of `Floors`.
+use Rattle.std.proofs.Common.{◌<◌, arith}
+use Rattle.link.proofs.Floors.{doubled, none_doubled, once_more, shift_fits, goes_in, goes_not, settled}
+use Rattle.link.proofs.floor_of.Goals as goal
+use Rattle.link.proofs.floor_of.Goals.{then-part-left, else-part-left}
+
+pub loop-part-init : goal.loop-part-init
+loop-part-init c = (none_doubled _, omega arith, omega arith, omega arith)
+
+pub loop-part-preserved : goal.loop-part-preserved
+loop-part-preserved c =
+    let i = c.loop-part in
+    rw (doubled i.part (omega arith)) (once_more i.steps _ i.part i.invariant.0, omega arith, omega arith, omega arith)
+
+pub loop-steps-preserved : goal.loop-steps-preserved
+loop-steps-preserved c =
+    let i = c.loop-steps in
+    let more : 0 < i.steps = c.loop-steps-test.true in
+    let d = doubled i.quotient (omega (arith, shift_fits i.invariant more)) in
+    elim c.if-part-left.branch [
+      | then-part-left w ↦ rw (w.quotient-is, w.left-is) (goes_in i.invariant more _ d (omega (arith, w.if-part-left.true)))
+      | else-part-left w ↦ rw (w.quotient-is, w.left-is) (goes_not i.invariant more _ d (omega (arith, w.if-part-left.false)))
+    ]
+
+pub returns : goal.returns
+returns c = settled c.loop-steps.invariant (omega arith)
