@@ -1,14 +1,20 @@
 -- A line is read as a call exactly where it is the call's one text: every call has a shape of its own.
-use mathlib.Core.Path.{◌≡◌, refl}
-use mathlib.Core.Option.{some, none-ne-some}
+use mathlib.Core.Path.{◌≡◌, refl, subst}
+use mathlib.Core.Bool.{Bool, true, false, cond}
+use mathlib.Core.List.{List, [], ◌∷◌}
+use mathlib.Core.Option.{Option, none, some, none-ne-some}
 use Prim.Native.Nat.{ℕ}
+use lib.Dec.{eqb}
+use Rattle.text.specs.Reading.{blank, Taken, read_number}
 use Rattle.shapes.specs.declared.Shape.{Shape}
 use Rattle.shapes.specs.declared.Shape.TheVariants.{Word, One, Two, Other}
+use Rattle.shapes.specs.Shapes.{shape_of}
+use Rattle.shapes.specs.Shapes.{read_first as shape_first, read_second as shape_second}
 use Rattle.shapes.proofs.Calls.{chosen, Tells, reads, fits}
 use Rattle.station.specs.declared.Call.{Call}
 use Rattle.station.specs.declared.Call.TheVariants.{OpenUrgent, OpenFair, CloseUrgent, CloseFair, OfferCell, OfferPacket, OpenTurn, LostTurn, Begin, End}
 use Rattle.lines.specs.Grammar.{big_u, big_f, big_c, small_c, small_u, small_f, small_t, small_x, small_b, small_e, text_of, Small}
-use Rattle.lines.specs.Reading.{word_of, one_of, two_of, call_in, ReadsOneText, TextsFit}
+use Rattle.lines.specs.Reading.{word_of, one_of, two_of, call_in, read_first, read_second, read_call, ReadsOneText, TextsFit}
 
 -- the shape of a call's text
 abbrev shaped : Call → Shape
@@ -64,8 +70,35 @@ told (One letter a) c e = one_told letter a c e
 told (Two letter a b) c e = two_told letter a b c e
 told Other c e = absurd (none-ne-some c e)
 
+-- a line is read as the call of its shape
+second_read : (letter a : ℕ) (t : Option Taken) → call_in (shape_second letter a t) ≡ read_second letter a t
+second_read letter a none = refl
+second_read letter a (some (b, [])) = refl
+second_read letter a (some (b, x ∷ rest)) = refl
+
+first_read : (letter : ℕ) (t : Option Taken) → call_in (shape_first letter t) ≡ read_first letter t
+first_read letter none = refl
+first_read letter (some (a, [])) = refl
+first_read letter (some (a, x ∷ rest)) = second_read letter a (read_number rest)
+
+blank_read : (b : Bool) (s : Shape) (o : Option Call) → call_in s ≡ o → call_in (cond b s Other) ≡ cond b o none
+blank_read true s o e = e
+blank_read false s o e = refl
+
+pub read_by_shape : (line : List ℕ) → call_in (shape_of line) ≡ read_call line
+read_by_shape [] = refl
+read_by_shape (letter ∷ []) = refl
+read_by_shape (letter ∷ x ∷ rest) = blank_read (eqb x blank) (shape_first letter (read_number rest)) _ (first_read letter (read_number rest))
+
+-- what ReadsOneText says of a line, of what it is read as
+abbrev Right : List ℕ → Option Call → Type 0
+Right line o =
+    ((c : Call) → o ≡ some c → (line ≡ text_of c) × Small c)
+    × ((c : Call) → line ≡ text_of c → Small c → o ≡ some c)
+    × (((c : Call) → line ≡ text_of c → Small c → ⊥) → o ≡ none)
+
 pub reads_one_text : ReadsOneText
-reads_one_text = reads shaped call_in text_of Small tells told
+reads_one_text line = subst (Right line) (read_by_shape line) (reads shaped call_in text_of Small tells told line)
 
 pub texts_fit : TextsFit
 texts_fit = fits shaped call_in text_of Small tells

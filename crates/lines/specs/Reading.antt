@@ -1,10 +1,10 @@
--- What a line is read as, by its shape, and the law by which a reader may go instead: a line is read as a call exactly where it
+-- What a line is read as, byte by byte, and the law by which a reader may go instead: a line is read as a call exactly where it
 -- is the call's one text and its numbers are small enough.
-use Rattle.std.specs.Prelude.{cond, List, ◌≡◌, ℕ, ◌≤◌, eqb, length}
+use Rattle.std.specs.Prelude.{cond, List, [], ◌∷◌, ◌≡◌, ℕ, ◌≤◌, eqb, length}
 use Rattle.std.proofs.Math.Option.{Option, none, some}
 use Rattle.shapes.specs.declared.Shape.{Shape}
 use Rattle.shapes.specs.declared.Shape.TheVariants.{Word, One, Two, Other}
-use Rattle.shapes.specs.Shapes.{shape_of}
+use Rattle.text.specs.Reading.{blank, Taken, read_number}
 use Rattle.station.specs.declared.Call.{Call}
 use Rattle.station.specs.declared.Call.TheVariants.{OpenUrgent, OpenFair, CloseUrgent, CloseFair, OfferCell, OfferPacket, OpenTurn, LostTurn, Begin, End}
 use Rattle.lines.specs.declared.Parsed.{Parsed}
@@ -30,16 +30,30 @@ two_of letter a b =
     (cond (eqb letter big_f) (some (OpenFair a b))
     (cond (eqb letter small_u) (some (OfferCell a b)) (cond (eqb letter small_f) (some (OfferPacket a b)) none)))
 
+-- after a first number and a blank a second number ends the line
+abbrev pub read_second : ℕ → ℕ → Option Taken → Option Call
+read_second letter a none = none
+read_second letter a (some (b, [])) = two_of letter a b
+read_second letter a (some (b, x ∷ rest)) = none
+
+-- a first number ends the line, or a blank and a second number follow it
+abbrev pub read_first : ℕ → Option Taken → Option Call
+read_first letter none = none
+read_first letter (some (a, [])) = one_of letter a
+read_first letter (some (a, x ∷ rest)) = read_second letter a (read_number rest)
+
+-- a line: a letter alone, or a letter, a blank and what follows
+abbrev pub read_call : List ℕ → Option Call
+read_call [] = none
+read_call (letter ∷ []) = word_of letter
+read_call (letter ∷ x ∷ rest) = cond (eqb x blank) (read_first letter (read_number rest)) none
+
 -- the command of a line's shape
 abbrev pub call_in : Shape → Option Call
 call_in (Word letter) = word_of letter
 call_in (One letter a) = one_of letter a
 call_in (Two letter a b) = two_of letter a b
 call_in Other = none
-
--- a line is read by its shape
-abbrev pub read_call : List ℕ → Option Call
-read_call line = call_in (shape_of line)
 
 -- the answer of `parse` for what a line is read as
 abbrev pub parsed_of : Option Call → Parsed

@@ -6,7 +6,7 @@ use Rattle.link.specs.declared.Verdict.{Verdict}
 use Rattle.link.specs.declared.Verdict.TheVariants.{Admitted, FailsAt, Rate, Refused, RefusedAt}
 use Rattle.link.specs.Answers.{Said, said_of, admitted, fails, rate, no}
 use Rattle.text.specs.Decimal.{decimal_of}
-use Rattle.text.specs.Lines.{no_word, line_with, refusal_line}
+use Rattle.text.specs.Lines.{no_word, line_with}
 use Rattle.text.specs.Spelled.{bytes_of, field, spelled}
 
 -- the words admitted, fails and rate
@@ -24,7 +24,7 @@ abbrev pub verdict_line : Verdict → List ℕ
 verdict_line Admitted = line_with admitted_word []
 verdict_line (FailsAt t) = line_with fails_word (decimal_of t ∷ [])
 verdict_line Rate = line_with rate_word []
-verdict_line (Refused r) = refusal_line (number_of r)
+verdict_line (Refused r) = line_with no_word (decimal_of (number_of r) ∷ [])
 verdict_line (RefusedAt r k) = line_with no_word (decimal_of (number_of r) ∷ decimal_of k ∷ [])
 
 -- room that every line has enough of

@@ -1,7 +1,7 @@
 -- The line that each answer of the log program is written as, and each record of a log as a session's line.
 use Rattle.std.specs.Prelude.{Bool, cond, List, [], ◌∷◌, ◌++◌, ℕ}
 use Rattle.text.specs.Decimal.{decimal_of}
-use Rattle.text.specs.Lines.{line_feed, ok_word, no_word, line_with, refusal_line}
+use Rattle.text.specs.Lines.{line_feed, no_word, line_with}
 use Rattle.station.specs.declared.Call.{Call}
 use Rattle.lines.specs.Grammar.{text_of}
 use Rattle.log_format.specs.declared.Verdict.{Verdict}
@@ -15,7 +15,10 @@ use Rattle.log_format.specs.Refusals.{fault_number}
 use Rattle.log_format.specs.Words.{opening_of, event_of}
 use Rattle.logging.specs.Replay.{open_urgent, open_fair, call_in}
 
--- the words at and none
+-- the words ok, at and none
+abbrev pub ok_word : List ℕ
+ok_word = 111 ∷ 107 ∷ []
+
 abbrev pub at_word : List ℕ
 at_word = 97 ∷ 116 ∷ []
 
@@ -31,7 +34,7 @@ verdict_line (Refused fault place) length = line_with no_word (decimal_of (fault
 -- a log that was written tells its length in bytes, one with a bad record the record's position, and one that is too long nothing more
 abbrev pub written_line : Written → List ℕ
 written_line (BadRecord position) = line_with no_word (decimal_of 22 ∷ decimal_of position ∷ [])
-written_line TooLong = refusal_line 26
+written_line TooLong = line_with no_word (decimal_of 26 ∷ [])
 written_line (Length n) = line_with ok_word (decimal_of n ∷ [])
 
 -- the place where two logs first differ, or that there is none

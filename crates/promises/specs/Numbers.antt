@@ -3,7 +3,7 @@ use Rattle.std.specs.Prelude.{◌≡◌, ◌||◌, List, [], ◌∷◌, map, ℕ
 use Rattle.units.specs.Limits.{no_such_flow, place_count, outside_of, bad_weight, bad_deadline, bad_length, slot_limit, tag_limit}
 use Rattle.units.specs.Refusals.{number_of}
 use Rattle.units.specs.declared.Refusal.{Refusal}
-use Rattle.units.specs.declared.Refusal.TheVariants.{NoSuchFlow, NotOpen, AlreadyOpen, PlacesFull, TagsUsedUp, SlotsUsedUp, PacketInService, NothingWaits, NothingInService, NoCommand, FlowInUse, BadWeight, BadDeadline, BadLength, ListTooLong, BadBurst, BadPeriod, BadTree}
+use Rattle.units.specs.declared.Refusal.TheVariants.{NoSuchFlow, NotOpen, AlreadyOpen, PlacesFull, TagsUsedUp, SlotsUsedUp, PacketInService, NothingWaits, NothingInService, NoCommand, FlowInUse, BadWeight, BadDeadline, BadLength, ListTooLong, BadBurst, BadPeriod}
 use Rattle.text.specs.Reading.{largest}
 
 -- the refusals in the order of their numbers
@@ -26,12 +26,11 @@ by_number =
     ∷ ListTooLong
     ∷ BadBurst
     ∷ BadPeriod
-    ∷ BadTree
     ∷ []
 
 -- Each refusal has its number.
 abbrev pub RefusalsNumbered : Type 0
-RefusalsNumbered = map number_of by_number ≡ 1 ∷ 2 ∷ 3 ∷ 5 ∷ 6 ∷ 7 ∷ 8 ∷ 9 ∷ 10 ∷ 11 ∷ 12 ∷ 13 ∷ 14 ∷ 15 ∷ 16 ∷ 17 ∷ 18 ∷ 27 ∷ []
+RefusalsNumbered = map number_of by_number ≡ 1 ∷ 2 ∷ 3 ∷ 5 ∷ 6 ∷ 7 ∷ 8 ∷ 9 ∷ 10 ∷ 11 ∷ 12 ∷ 13 ∷ 14 ∷ 15 ∷ 16 ∷ 17 ∷ 18 ∷ []
 
 -- The limits: flows to 15 with sixteen places each; weights, deadlines and lengths; where slots and tags end; the largest number of a line.
 pub record LimitsSaid : Type 0 where

@@ -1,5 +1,6 @@
 -- The line that each reply is written as: a word and its fields.
 use Rattle.std.specs.Prelude.{List, [], ◌∷◌, ℕ}
+use Rattle.units.specs.declared.Refusal.{Refusal}
 use Rattle.units.specs.declared.Refusal.TheVariants.{NoCommand}
 use Rattle.units.specs.Refusals.{number_of}
 use Rattle.urgent.specs.declared.Answer as urgent
@@ -9,9 +10,12 @@ use Rattle.packets.specs.declared.Answer.TheVariants.{Refused as Refused', Opene
 use Rattle.station.specs.declared.Reply.{Reply}
 use Rattle.station.specs.declared.Reply.TheVariants.{Urgent, Fair}
 use Rattle.text.specs.Decimal.{decimal_of}
-use Rattle.text.specs.Lines.{ok_word, line_with, refusal_line}
+use Rattle.text.specs.Lines.{no_word, line_with}
 
--- the words sent, idle and missed
+-- the words ok, sent, idle and missed
+abbrev pub ok_word : List ℕ
+ok_word = 111 ∷ 107 ∷ []
+
 abbrev pub sent_word : List ℕ
 sent_word = 115 ∷ 101 ∷ 110 ∷ 116 ∷ []
 
@@ -21,9 +25,13 @@ idle_word = 105 ∷ 100 ∷ 108 ∷ 101 ∷ []
 abbrev pub missed_word : List ℕ
 missed_word = 109 ∷ 105 ∷ 115 ∷ 115 ∷ 101 ∷ 100 ∷ []
 
+-- a refusal tells its number and nothing else
+abbrev pub refusal_line : Refusal → List ℕ
+refusal_line r = line_with no_word (decimal_of (number_of r) ∷ [])
+
 -- what a line that is no command is answered
 abbrev pub no_command_line : List ℕ
-no_command_line = refusal_line (number_of NoCommand)
+no_command_line = refusal_line NoCommand
 
 -- a turn that sent a cell tells its flow and number, and how many cells were missed
 abbrev pub sent_line : ℕ → ℕ → ℕ → List ℕ
@@ -35,7 +43,7 @@ idle_line missed = line_with idle_word (missed_word ∷ decimal_of missed ∷ []
 
 -- an accepted cell tells its number and last slot
 abbrev pub urgent_line : urgent.Answer → List ℕ
-urgent_line (Refused r) = refusal_line (number_of r)
+urgent_line (Refused r) = refusal_line r
 urgent_line Opened = line_with ok_word []
 urgent_line Closed = line_with ok_word []
 urgent_line (Accepted number last) = line_with ok_word (decimal_of number ∷ decimal_of last.0 ∷ [])
@@ -44,7 +52,7 @@ urgent_line (Idle missed) = idle_line missed
 
 -- an accepted packet tells its number and both tags, one begun its flow, number and start tag, and one ended its flow and number
 abbrev pub fair_line : fair.Answer → List ℕ
-fair_line (Refused' r) = refusal_line (number_of r)
+fair_line (Refused' r) = refusal_line r
 fair_line Opened' = line_with ok_word []
 fair_line Closed' = line_with ok_word []
 fair_line (Accepted' number start finish) = line_with ok_word (decimal_of number ∷ decimal_of start.0 ∷ decimal_of finish.0 ∷ [])

@@ -1,9 +1,8 @@
 // The lines of both lanes' answers, each put at a place that has room for the longest.
 ghost use Rattle.std.specs.Prelude.{map, ◌+◌, ◌≤◌, length, take};
-ghost use Rattle.units.specs.Refusals.{number_of};
 ghost use Rattle.text.specs.Decimal.{decimal_of};
-ghost use Rattle.text.specs.Lines.{ok_word, line_with, refusal_line, Put};
-ghost use Rattle.replies.specs.Printing.{sent_line, idle_line, urgent_line, fair_line};
+ghost use Rattle.text.specs.Lines.{line_with, Put};
+ghost use Rattle.replies.specs.Printing.{ok_word, refusal_line, sent_line, idle_line, urgent_line, fair_line};
 
 use units::Refusal;
 
@@ -45,7 +44,7 @@ pub(crate) fn fair_line(out: &mut [u8], at: usize, answer: fair::Answer) -> usiz
 // `no` and the refusal's number.
 fn refusal_line(out: &mut [u8], at: usize, refusal: Refusal) -> usize
     requires { at + 96 ≤ length out.old }
-    ensures { Put (refusal_line (number_of refusal)) out.old at out.new result × (result ≤ at + 96) }
+    ensures { Put (refusal_line refusal) out.old at out.new result × (result ≤ at + 96) }
 {
     let n = refusal.number();
     text::line(out, at, b"no", [n, 0, 0], 1)
