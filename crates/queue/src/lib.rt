@@ -9,6 +9,7 @@ use tags::{Flow, Packet};
 use units::{LAST_FLOW, Refusal};
 
 // Puts a packet of a flow, of this length in bytes, in the flow's first free place, with the tags that it was quoted.
+#[tactic(auto, unfolding(packets::specs::Calls::put_of, units::specs::Refusals::first_of))]
 pub fn put(queue: Queue, flow: u64, length: u64, quote: Quote) -> Kept
     ensures { result ≡ put_of queue flow length quote }
 {

@@ -10,6 +10,7 @@ use tags::Packet;
 use units::{Refusal, Tag};
 
 // Takes the waiting packet with the smallest start tag into service.
+#[tactic(auto, unfolding(packets::specs::Calls::begin_by, units::specs::Refusals::first_of))]
 pub fn begin(queue: Queue) -> Kept
     ensures { result ≡ begin_by by_start queue }
 {
@@ -68,6 +69,7 @@ pub fn begin(queue: Queue) -> Kept
 }
 
 // Ends the packet in service.
+#[tactic(auto, unfolding(packets::specs::Calls::end_of, units::specs::Refusals::first_of))]
 pub fn end(queue: Queue) -> Kept
     ensures { result ≡ end_of queue }
 {
