@@ -24,7 +24,7 @@ const EVENT: usize = 4;
 // Writes a log into the room and answers its length; where a record is bad, or the log is too long, it says so and leaves the room as it was.
 pub fn write(form: Form, urgent: &[u32], fair: &[u32], events: &[u32], room: &mut [u8]) -> Written
     ensures value { result ≡ written_of (lent_log form urgent.now fair.now events.now) (length room.old) }
-    ensures room_after_lem { room.new ≡ room_after result (lent_log form urgent.now fair.now events.now) room.old }
+    ensures room_holds { room.new ≡ room_after result (lent_log form urgent.now fair.now events.now) room.old }
 {
     let bad = log_judging::first_bad(form, urgent, fair, events);
     if bad < urgent.len() + fair.len() + events.len() {
