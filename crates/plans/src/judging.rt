@@ -33,7 +33,7 @@ pub fn broken(plan: Plan) -> bool
 fn bad_class(plan: Plan, class: u64) -> bool
     ensures { result ≡ bad_class plan class }
 {
-    if not_lower_lem(plan, class) {
+    if not_lower(plan, class) {
         return true;
     }
     if five_deep(plan, class) {
@@ -43,7 +43,7 @@ fn bad_class(plan: Plan, class: u64) -> bool
 }
 
 // Whether a class that is not the root hangs from one that is not lower.
-fn not_lower_lem(plan: Plan, class: u64) -> bool
+fn not_lower(plan: Plan, class: u64) -> bool
     ensures { result ≡ not_lower plan class }
 {
     if class < 1 {

@@ -12,7 +12,7 @@ use recorder::Recorder;
 // them. A log that is too long, or has more events than words there, is told as too long and leaves the room as it was.
 pub fn write(recorder: Recorder, events: &[u32], room: &mut [u8]) -> Written
     ensures value { result ≡ wrote_of recorder events.now (length room.old) }
-    ensures room_after_lem { room.new ≡ room_after result (held_log recorder events.now) room.old }
+    ensures room_holds { room.new ≡ room_after result (held_log recorder events.now) room.old }
 {
     let count = recorder.events;
     if (events.len() as u64) < count {
