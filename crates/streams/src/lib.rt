@@ -1,0 +1,67 @@
+// What the programs read from and write to: pieces of input as they come, and bytes that are written whole or not at all told as written.
+#![tactic(auto)]
+
+ghost use Rattle.std.specs.Prelude.{◌≡◌, ◌<◌, ◌≤◌, ⊤, length, take, IsTrue, MatchOption, decimal};
+ghost use Rattle.std.specs.Io.KnownBytes.{Appends, Consumes, Keeps, IsAtEnd};
+
+use std::io::{Read, Write};
+
+// Reads a piece of the input into the front of the room, what there is and no more: its length, which is 0 where the input has ended; or
+// nothing, where it could not be read.
+pub fn piece<R: Read>(input: &mut R, room: &mut [u8]) -> Option<usize>
+    ensures within { MatchOption result ⊤ (λ n. (n ≤ length room.new) × (n ≡ length (take n room.new))) }
+    ensures bytes { MatchOption result (Keeps (R.remaining input.old) (R.remaining input.new)) (λ n. Consumes (R.remaining input.old) (R.remaining input.new) (take n room.new)) }
+    ensures end { MatchOption result ⊤ (λ n. n ≡ 0 → 0 < length room.new → IsAtEnd (R.remaining input.new)) }
+    ensures kept { length room.new ≡ length room.old }
+{
+    match input.read(room) {
+        Ok(n) => Some(n),
+        Err(_) => None,
+    }
+}
+
+// Reads until the room is full, the input has ended or could not be read: how many bytes are at the front of the room.
+pub fn fill<R: Read>(input: &mut R, room: &mut [u8]) -> usize
+    ensures within { (result ≤ length room.new) × (result ≡ length (take result room.new)) }
+    ensures bytes { Consumes (R.remaining input.old) (R.remaining input.new) (take result room.new) }
+    ensures kept { length room.new ≡ length room.old }
+{
+    let mut done = 0;
+    while done < room.len() {
+        match piece(input, &mut room[done..]) {
+            None => return done,
+            Some(0) => return done,
+            Some(n) => done += n,
+        }
+    }
+    done
+}
+
+// Writes all of the bytes; whether it could.
+pub fn put<W: Write>(out: &mut W, bytes: &[u8]) -> bool
+    ensures { IsTrue result → Appends (W.contents out.old) (W.contents out.new) bytes.now }
+{
+    out.write_all(bytes).is_ok()
+}
+
+// Writes all of the bytes; whether it could. Where it could not, that is told by a line.
+pub fn put_or_tell<W: Write, E: Write>(out: &mut W, bytes: &[u8], err: &mut E, line: &[u8]) -> bool
+    ensures written { IsTrue result → Appends (W.contents out.old) (W.contents out.new) bytes.now }
+    ensures silent { IsTrue result → err.new ≡ err.old }
+{
+    if put(out, bytes) {
+        return true;
+    }
+    put(err, line);
+    false
+}
+
+// Writes a number by its decimal digits; whether it could.
+pub fn number<W: Write>(out: &mut W, n: u64) -> bool
+    ensures { IsTrue result → Appends (W.contents out.old) (W.contents out.new) (decimal n) }
+{
+    write!(out, "{n}").is_ok()
+}
+
+#[cfg(test)]
+mod tests;
