@@ -6,8 +6,8 @@ use tree::Tree;
 use units::LAST_FLOW;
 
 // Whether some finish would pass the largest tag, if a packet of this length of this flow were begun.
-pub fn passes(tree: Tree, flow: u64, length: u64) -> bool
-    ensures { result ≡ passes_for tree flow length }
+pub fn passes(tree: &Tree, flow: u64, length: u64) -> bool
+    ensures { result ≡ passes_for tree.now flow length }
 {
     if LAST_FLOW < flow {
         return false;

@@ -9,15 +9,15 @@ use tree::{Node, Tree};
 use units::Tag;
 
 // The flow whose packet is begun next, 16 where nothing waits.
-pub fn flow_met(tree: Tree) -> u64
-    ensures { result ≡ flow_met tree }
+pub fn flow_met(tree: &Tree) -> u64
+    ensures { result ≡ flow_met tree.now }
 {
     descend(tree, 0, 4)
 }
 
 // From a class to the child that goes first, until a flow is met, in at most so many steps.
-fn descend(tree: Tree, class: u64, left: u64) -> u64
-    ensures { result ≡ descend_of left tree class }
+fn descend(tree: &Tree, class: u64, left: u64) -> u64
+    ensures { result ≡ descend_of left tree.now class }
 {
     if left == 0 {
         return 16;
@@ -30,8 +30,8 @@ fn descend(tree: Tree, class: u64, left: u64) -> u64
 }
 
 // The place of the class's child that goes first, 47 where none has anything to send.
-fn least_child(tree: Tree, class: u64) -> u64
-    ensures { result ≡ place_in (least_child tree class) }
+fn least_child(tree: &Tree, class: u64) -> u64
+    ensures { result ≡ place_in (least_child tree.now class) }
 {
     let mut best: usize = 47;
     let mut taken = Node {
@@ -77,6 +77,7 @@ fn is_child(x: Node, class: u64) -> bool
 }
 
 // Whether the child x at place k goes before the child b at place j.
+#[tactic(auto, unfolding(places::specs::Choice::comes_before))]
 fn goes_before(x: Node, k: usize, b: Node, j: usize) -> bool
     ensures { result ≡ comes_before (key_of k x) (key_of j b) }
 {

@@ -43,9 +43,10 @@ pub struct Tree {
 
 impl Tree {
     // The node of a flow, an empty one where there is no such flow.
-    pub fn flow_node(self, flow: u64) -> Node
-        ensures { result ≡ node_at self (node_of flow) }
+    pub fn flow_node(&self, flow: u64) -> Node
+        ensures { result ≡ node_at self.now (node_of flow) }
     {
+        let nodes = self.nodes;
         if LAST_FLOW < flow {
             return Node {
                 parent: 0,
@@ -55,7 +56,6 @@ impl Tree {
                 finish: Tag(0),
             };
         }
-        let nodes = self.nodes;
         nodes[31 + flow as usize]
     }
 
