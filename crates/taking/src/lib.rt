@@ -88,6 +88,7 @@ fn goes_first(p: Packet, k: usize, b: Packet, j: usize) -> bool
 }
 
 // Whether the waiting packet p at place k of the flow goes before the waiting packet b at place j.
+#[tactic(auto, unfolding(places::specs::Choice::comes_before))]
 fn goes_before(p: Packet, k: usize, b: Packet, j: usize) -> bool
     ensures { result ≡ comes_before (by_number k p) (by_number j b) }
 {
