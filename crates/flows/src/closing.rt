@@ -7,9 +7,9 @@ use tags::Flow;
 use units::{LAST_FLOW, Refusal};
 
 // Closes a flow that has no packet waiting and none in service. Its numbers and its last finish go on when it is opened again.
-#[tactic(auto, unfolding(packets::specs::Calls::close_of, units::specs::Refusals::first_of, places::specs::Places::count))]
-pub fn close(queue: Queue, flow: u64) -> Flows
-    ensures { result ≡ close_of queue flow }
+#[tactic(auto, unfolding(packets::specs::Calls::close_of, units::specs::Refusals::first_of))]
+pub fn close(queue: &Queue, flow: u64) -> Flows
+    ensures { result ≡ close_of queue.now flow }
 {
     let mut flows = queue.flows;
     if LAST_FLOW < flow {
@@ -26,16 +26,7 @@ pub fn close(queue: Queue, flow: u64) -> Flows
             answer: Answer::Refused(Refusal::NotOpen),
         };
     }
-    let places = queue.packets;
-    let mut waiting: u64 = 0;
-    let mut i: usize = 0;
-    while i < 16 {
-        let p = places[f * 16 + i];
-        if p.held {
-            waiting += 1;
-        }
-        i += 1;
-    }
+    let waiting = queue.waiting_of(flow);
     if 0 < waiting {
         return Flows {
             flows: flows,

@@ -8,8 +8,8 @@ use units::{LAST_FLOW, Refusal};
 
 // Opens a flow with a weight. Its numbers and its last finish go on where they stood.
 #[tactic(auto, unfolding(packets::specs::Calls::open_of, units::specs::Refusals::first_of))]
-pub fn open(queue: Queue, flow: u64, weight: u64) -> Flows
-    ensures { result ≡ open_of queue flow weight }
+pub fn open(queue: &Queue, flow: u64, weight: u64) -> Flows
+    ensures { result ≡ open_of queue.now flow weight }
 {
     let mut flows = queue.flows;
     if LAST_FLOW < flow {

@@ -4,8 +4,8 @@
 mod choosing;
 mod quoting;
 
-ghost use Rattle.std.specs.Prelude.{◌≡◌};
-ghost use Rattle.packets.specs.Queue.{fresh_queue, flow_at, waiting, busy_with};
+ghost use Rattle.std.specs.Prelude.{◌≡◌, ◌≤◌};
+ghost use Rattle.packets.specs.Queue.{fresh_queue, flow_at, waiting, waiting_of, busy_with};
 
 pub use choosing::goes_first;
 pub use quoting::quote_of;
@@ -98,8 +98,8 @@ impl Queue {
     }
 
     // The record of a flow: of one that is none of the sixteen, that of a flow never opened.
-    pub fn flow_at(self, flow: u64) -> Flow
-        ensures { result ≡ flow_at self flow }
+    pub fn flow_at(&self, flow: u64) -> Flow
+        ensures { result ≡ flow_at self.now flow }
     {
         if LAST_FLOW < flow {
             return Flow {
@@ -115,8 +115,8 @@ impl Queue {
 
     // How many packets wait.
     #[tactic(auto, unfolding(places::specs::Places::count))]
-    pub fn waiting(self) -> u64
-        ensures { result ≡ waiting self }
+    pub fn waiting(&self) -> u64
+        ensures { result ≡ waiting self.now }
     {
         let packets = self.packets;
         let mut waiting: u64 = 0;
@@ -129,6 +129,26 @@ impl Queue {
             i += 1;
         }
         waiting
+    }
+
+    // How many packets of the flow wait.
+    #[tactic(auto, unfolding(places::specs::Places::count))]
+    pub fn waiting_of(&self, flow: u64) -> u64
+        requires { flow ≤ 15 }
+        ensures { result ≡ waiting_of self.now flow }
+    {
+        let packets = self.packets;
+        let f = flow as usize;
+        let mut count: u64 = 0;
+        let mut i: usize = 0;
+        while i < 16 {
+            let p = packets[f * 16 + i];
+            if p.held {
+                count += 1;
+            }
+            i += 1;
+        }
+        count
     }
 }
 

@@ -7,8 +7,8 @@ use Rattle.packets.proofs.Queue.waiting.Goals.{then-p, else-p}
 
 pub loop-i-preserved : goal.loop-i-preserved
 loop-i-preserved c =
-    let h : c.loop-i.i < length c.args.self.packets = search rules in
+    let h : c.loop-i.i < length c.args.self.now.packets = search rules in
     elim c.if-p.branch [
-      | then-p w ↦ rw w.waiting-is (omega arith, omega arith, tally_more is_held c.args.self.packets c.loop-i.i c.loop-i.waiting free_packet h c.loop-i.invariant.2 w.if-p.true)
-      | else-p w ↦ rw w.waiting-is (omega arith, omega arith, tally_same is_held c.args.self.packets c.loop-i.i c.loop-i.waiting free_packet h c.loop-i.invariant.2 w.if-p.false)
+      | then-p w ↦ rw w.waiting-is (omega arith, omega arith, tally_more is_held c.args.self.now.packets c.loop-i.i c.loop-i.waiting free_packet h c.loop-i.invariant.2 w.if-p.true)
+      | else-p w ↦ rw w.waiting-is (omega arith, omega arith, tally_same is_held c.args.self.now.packets c.loop-i.i c.loop-i.waiting free_packet h c.loop-i.invariant.2 w.if-p.false)
     ]
