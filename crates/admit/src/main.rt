@@ -5,7 +5,6 @@
 
 ghost use Rattle.std.specs.Prelude.{◌≤◌, length};
 
-use libc::{STDERR_FILENO, STDIN_FILENO, STDOUT_FILENO};
 use lists::Reading;
 
 // The reading so far, and whether a read or a write failed, which has then been told.
@@ -15,54 +14,53 @@ struct Ran {
     failed: bool,
 }
 
-fn main() {
-    let mut input = io::large_buffer();
-    let mut out = io::large_buffer();
-    let ran = run(&mut input, &mut out);
+fn main(rt: HostRuntime) {
+    let mut input = [0u8; 65_536];
+    let mut out = [0u8; 65_536];
+    let ran = run(&rt, &mut input, &mut out);
     if ran.failed {
         return;
     }
     let reading = ran.reading;
     let mut last = [0u8; 96];
     let n = reading.finish(&mut last);
-    write_verdicts(&last[..n]);
+    write_verdicts(&rt, &last[..n]);
 }
 
 // Writes verdicts and answers true, or tells that it could not and answers false.
-fn write_verdicts(verdicts: &[u8]) -> bool {
-    if io::write_all(STDOUT_FILENO, verdicts) {
-        return true;
-    }
-    io::write_all(STDERR_FILENO, b"admit: the output could not be written\n");
-    false
+fn write_verdicts(rt: &HostRuntime, verdicts: &[u8]) -> bool {
+    let mut output = rt.stdout();
+    let mut error = rt.stderr();
+    let line = b"admit: the output could not be written\n";
+    streams::put_or_tell(&mut output, verdicts, &mut error, line)
 }
 
 // Tells that the input could not be read.
-fn tell_unread() {
-    io::write_all(STDERR_FILENO, b"admit: the input could not be read\n");
+fn tell_unread(rt: &HostRuntime) {
+    let mut error = rt.stderr();
+    streams::put(&mut error, b"admit: the input could not be read\n");
 }
 
 // Reads piece after piece until the input ends, or a read or a write fails. A line that a failed read cuts short is no line. A proved
 // loop has to end, and nothing says that the input does: the loop counts its reads down, from a number that no run uses up.
-fn run(input: &mut [u8], out: &mut [u8]) -> Ran
+fn run(rt: &HostRuntime, input: &mut [u8], out: &mut [u8]) -> Ran
     requires { 96 ≤ length out.old }
 {
     let mut reading = Reading::fresh();
+    let mut stdin = rt.stdin();
     let mut reads = u64::MAX;
     while 0 < reads {
-        let got = libc::read(STDIN_FILENO, input);
-        if got < 0 {
-            tell_unread();
+        let Some(n) = streams::piece(&mut stdin, input) else {
+            tell_unread(rt);
             return Ran {
                 reading: reading,
                 failed: true,
             };
-        }
-        let n = io::count(got, input);
+        };
         if n == 0 {
             break;
         }
-        let ran = answer(reading, &input[..n], out);
+        let ran = answer(rt, reading, &input[..n], out);
         if ran.failed {
             return ran;
         }
@@ -77,7 +75,7 @@ fn run(input: &mut [u8], out: &mut [u8]) -> Ran
 }
 
 // Feeds one piece of input to the reading, and writes its verdicts as often as out is full.
-fn answer(reading: Reading, piece: &[u8], out: &mut [u8]) -> Ran
+fn answer(rt: &HostRuntime, reading: Reading, piece: &[u8], out: &mut [u8]) -> Ran
     requires { 96 ≤ length out.old }
 {
     let mut reading = reading;
@@ -88,7 +86,7 @@ fn answer(reading: Reading, piece: &[u8], out: &mut [u8]) -> Ran
         let written = fed.written;
         let next = fed.reading;
         reading = next;
-        if !write_verdicts(&out[..written]) {
+        if !write_verdicts(rt, &out[..written]) {
             return Ran {
                 reading: reading,
                 failed: true,

@@ -1,29 +1,28 @@
 // The input, in whole parts.
 ghost use Rattle.std.specs.Prelude.{◌+◌, ◌≤◌, length};
 
-use libc::STDIN_FILENO;
-
 // What stands for a byte or a number past the end of the input: it is above all that are there.
 pub(crate) const NONE: usize = usize::MAX;
 
 // Fills bytes from the input; whether it had so many.
-pub(crate) fn filled(bytes: &mut [u8]) -> bool {
-    io::read_full(STDIN_FILENO, bytes) == bytes.len()
+pub(crate) fn filled(rt: &HostRuntime, bytes: &mut [u8]) -> bool {
+    let mut input = rt.stdin();
+    streams::fill(&mut input, bytes) == bytes.len()
 }
 
 // The next byte of the input.
-pub(crate) fn byte() -> usize {
+pub(crate) fn byte(rt: &HostRuntime) -> usize {
     let mut bytes = [0u8; 1];
-    if !filled(&mut bytes) {
+    if !filled(rt, &mut bytes) {
         return NONE;
     }
     log_format::two(bytes[0], 0) as usize
 }
 
 // The next number of the input.
-pub(crate) fn number() -> usize {
+pub(crate) fn number(rt: &HostRuntime) -> usize {
     let mut bytes = [0u8; 4];
-    if !filled(&mut bytes) {
+    if !filled(rt, &mut bytes) {
         return NONE;
     }
     number_at(&bytes, 0) as usize

@@ -15,7 +15,6 @@ mod reading;
 mod writing;
 
 use input::{NONE, byte, filled, number};
-use libc::STDERR_FILENO;
 use log_format::Form;
 use reading::{comparing, finding, reading};
 use writing::writing;
@@ -31,22 +30,22 @@ const WRITE: usize = b'w' as usize;
 
 const WRITE_OWN: usize = b'o' as usize;
 
-fn main() {
+fn main(rt: HostRuntime) {
     let mut bytes = [0u8; 70_000];
-    cases(&mut bytes);
+    cases(&rt, &mut bytes);
 }
 
 // Answers one case after the other, up to the end of the input. A proved loop has to end: it counts the cases down, from a number that no
 // run uses up.
-fn cases(bytes: &mut [u8]) {
+fn cases(rt: &HostRuntime, bytes: &mut [u8]) {
     let mut left = u64::MAX;
     while 0 < left {
-        let kind = byte();
+        let kind = byte(rt);
         if kind == NONE {
             return;
         }
-        if !answered(kind, bytes) {
-            tell();
+        if !answered(rt, kind, bytes) {
+            tell(rt);
             return;
         }
         left -= 1;
@@ -54,43 +53,44 @@ fn cases(bytes: &mut [u8]) {
 }
 
 // Tells that a case is not answered.
-fn tell() {
-    io::write_all(STDERR_FILENO, b"log_edges: a case is not answered\n");
+fn tell(rt: &HostRuntime) {
+    let mut error = rt.stderr();
+    streams::put(&mut error, b"log_edges: a case is not answered\n");
 }
 
 // Answers a case of this kind, with bytes lent for its log or its numbers; whether it could.
-fn answered(kind: usize, bytes: &mut [u8]) -> bool {
-    let n = number();
+fn answered(rt: &HostRuntime, kind: usize, bytes: &mut [u8]) -> bool {
+    let n = number(rt);
     if kind == WRITE {
-        return writing(Form::Flow, n, bytes);
+        return writing(rt, Form::Flow, n, bytes);
     }
     if kind == WRITE_OWN {
-        return writing(Form::Own, n, bytes);
+        return writing(rt, Form::Own, n, bytes);
     }
-    let m = other(kind);
+    let m = other(rt, kind);
     if bytes.len() < n {
         return false;
     }
-    if !filled(&mut bytes[..n]) {
+    if !filled(rt, &mut bytes[..n]) {
         return false;
     }
-    about(kind, &bytes[..n], m)
+    about(rt, kind, &bytes[..n], m)
 }
 
 // The length of the other log, where there are two.
-fn other(kind: usize) -> usize {
+fn other(rt: &HostRuntime, kind: usize) -> usize {
     if kind == PAIR {
-        return number();
+        return number(rt);
     }
     0
 }
 
 // Answers a case of this kind about a log, and about another of m bytes.
-fn about(kind: usize, log: &[u8], m: usize) -> bool {
+fn about(rt: &HostRuntime, kind: usize, log: &[u8], m: usize) -> bool {
     match kind {
-        READ => reading(log),
-        PAIR => comparing(log, m),
-        RECORD => finding(log),
+        READ => reading(rt, log),
+        PAIR => comparing(rt, log, m),
+        RECORD => finding(rt, log),
         _ => false,
     }
 }

@@ -1,41 +1,40 @@
 // The answers, as lines and as bytes. Each function says whether it could write.
 ghost use Rattle.std.specs.Prelude.{◌≤◌, length};
 
-use libc::STDOUT_FILENO;
-
 // Writes a word and the first count of two numbers as a line.
-pub(crate) fn line(word: &[u8], a: u64, b: u64, count: usize) -> bool
+pub(crate) fn line(rt: &HostRuntime, word: &[u8], a: u64, b: u64, count: usize) -> bool
     requires { length word.now ≤ 8 }
 {
     let mut text = [0u8; 128];
     let n = text::line(&mut text, 0, word, [a, b, 0], count);
-    raw(&text[..n])
+    raw(rt, &text[..n])
 }
 
 // Writes `no` and the first count of two numbers as a line.
-pub(crate) fn no(number: u64, place: u64, count: usize) -> bool {
-    line(b"no", number, place, count)
+pub(crate) fn no(rt: &HostRuntime, number: u64, place: u64, count: usize) -> bool {
+    line(rt, b"no", number, place, count)
 }
 
 // Writes `ok` and five numbers as a line.
-pub(crate) fn five(a: u64, b: u64, c: u64, d: u64, e: u64) -> bool {
+pub(crate) fn five(rt: &HostRuntime, a: u64, b: u64, c: u64, d: u64, e: u64) -> bool {
     let mut text = [0u8; 128];
     let p = text::part(&mut text, 0, b"ok", [a, b, c], 3);
     let n = text::line(&mut text, p, b"", [d, e, 0], 2);
-    raw(&text[..n])
+    raw(rt, &text[..n])
 }
 
 // Writes how many bytes there are as a line, after a word, and then the bytes as they are.
-pub(crate) fn counted(word: &[u8], bytes: &[u8]) -> bool
+pub(crate) fn counted(rt: &HostRuntime, word: &[u8], bytes: &[u8]) -> bool
     requires { length word.now ≤ 8 }
 {
-    if !line(word, bytes.len() as u64, 0, 1) {
+    if !line(rt, word, bytes.len() as u64, 0, 1) {
         return false;
     }
-    raw(bytes)
+    raw(rt, bytes)
 }
 
 // Writes bytes as they are.
-fn raw(bytes: &[u8]) -> bool {
-    io::write_all(STDOUT_FILENO, bytes)
+fn raw(rt: &HostRuntime, bytes: &[u8]) -> bool {
+    let mut output = rt.stdout();
+    streams::put(&mut output, bytes)
 }

@@ -15,10 +15,10 @@ const ROOM: u8 = 238;
 
 // What the writer says of a log of this form and of u urgent openings, and the room after it; the other counts, the room's length and the log
 // are still to be read, with bytes lent for them.
-pub(crate) fn writing(form: Form, u: usize, bytes: &mut [u8]) -> bool {
-    let f = number();
-    let e = number();
-    let m = number();
+pub(crate) fn writing(rt: &HostRuntime, form: Form, u: usize, bytes: &mut [u8]) -> bool {
+    let f = number(rt);
+    let e = number(rt);
+    let m = number(rt);
     if MOST_OPENINGS < u {
         return false;
     }
@@ -28,30 +28,38 @@ pub(crate) fn writing(form: Form, u: usize, bytes: &mut [u8]) -> bool {
     if MOST_EVENTS < e {
         return false;
     }
-    taking(form, u, u + f, u + f + e, m, bytes)
+    taking(rt, form, u, u + f, u + f + e, m, bytes)
 }
 
 // The same, for n numbers, of which the fair openings start at u and the events at v, and a room of m bytes.
-fn taking(form: Form, u: usize, v: usize, n: usize, m: usize, bytes: &mut [u8]) -> bool
+fn taking(
+    rt: &HostRuntime,
+    form: Form,
+    u: usize,
+    v: usize,
+    n: usize,
+    m: usize,
+    bytes: &mut [u8],
+) -> bool
     requires { (u ≤ v) × (v ≤ n) × (n ≤ 17080) }
 {
     let mut words = [0u32; 17_080];
-    if !taken(bytes, &mut words, n) {
+    if !taken(rt, bytes, &mut words, n) {
         return false;
     }
     let mut room = [ROOM; 70_000];
-    written(form, &words, u, v, n, &mut room, m)
+    written(rt, form, &words, u, v, n, &mut room, m)
 }
 
 // Takes so many numbers from the input, by way of their bytes; whether it had them.
-fn taken(bytes: &mut [u8], words: &mut [u32], n: usize) -> bool
+fn taken(rt: &HostRuntime, bytes: &mut [u8], words: &mut [u32], n: usize) -> bool
     requires { n ≤ length words.old }
 {
     if bytes.len() / 4 < n {
         return false;
     }
     let long = 4 * n;
-    if !filled(&mut bytes[..long]) {
+    if !filled(rt, &mut bytes[..long]) {
         return false;
     }
     let mut i = 0;
@@ -64,6 +72,7 @@ fn taken(bytes: &mut [u8], words: &mut [u32], n: usize) -> bool
 
 // The same, for numbers that are there, and the first m bytes of what is lent as a room.
 fn written(
+    rt: &HostRuntime,
     form: Form,
     words: &[u32],
     u: usize,
@@ -77,10 +86,10 @@ fn written(
     if room.len() < m {
         return false;
     }
-    if !said(wrote(form, words, u, v, n, &mut room[..m])) {
+    if !said(rt, wrote(form, words, u, v, n, &mut room[..m])) {
         return false;
     }
-    counted(b"room", &room[..m])
+    counted(rt, b"room", &room[..m])
 }
 
 // What the writer says of a form, the first n numbers and a room.
@@ -91,10 +100,10 @@ fn wrote(form: Form, words: &[u32], u: usize, v: usize, n: usize, room: &mut [u8
 }
 
 // What the writer says, as a line.
-fn said(written: Written) -> bool {
+fn said(rt: &HostRuntime, written: Written) -> bool {
     match written {
-        Written::BadRecord(position) => no(22, position as u64, 2),
-        Written::TooLong => no(26, 0, 1),
-        Written::Length(n) => line(b"ok", n as u64, 0, 1),
+        Written::BadRecord(position) => no(rt, 22, position as u64, 2),
+        Written::TooLong => no(rt, 26, 0, 1),
+        Written::Length(n) => line(rt, b"ok", n as u64, 0, 1),
     }
 }
