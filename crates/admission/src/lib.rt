@@ -12,7 +12,7 @@ use link::{Declaration, Verdict};
 use units::Refusal;
 
 // A list of at most sixteen declarations by value; the count 17 stands for a longer list.
-#[derive(Drop)]
+#[derive(Clone, Copy)]
 struct Table {
     count: usize,
     items: [Declaration; 16],

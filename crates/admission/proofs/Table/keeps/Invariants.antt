@@ -1,0 +1,12 @@
+-- `admission::Table::keeps` meets its contract. The invariant: every t from the one last passed to the horizon passes.
+-- The measure is the one last passed.
+use Rattle.std.proofs.Common.{◌+◌, ◌≤◌}
+use Rattle.admission.specs.Tables.{held_of}
+use Rattle.admission.proofs.Kept.{PassedTo}
+use Rattle.admission.proofs.Table.keeps.Given as goal
+
+abbrev pub invariant-loop-passed : goal.invariant-loop-passed
+invariant-loop-passed l = (l.passed ≤ l.horizon + 1) × PassedTo l.passed l.horizon (held_of l.self)
+
+abbrev pub decreases-loop-passed : goal.decreases-loop-passed
+decreases-loop-passed l = l.passed
