@@ -42,7 +42,7 @@ impl Fair {
     pub fn open(self, flow: u64, weight: u64) -> Done
         ensures { result ≡ open_of self flow weight }
     {
-        let was = self.queue;
+        let was = &self.queue;
         let kept = flows::open(was, flow, weight);
         let answer = kept.answer;
         let Answer::Opened = answer else {
@@ -74,7 +74,7 @@ impl Fair {
     pub fn close(self, flow: u64) -> Done
         ensures { result ≡ close_of self flow }
     {
-        let was = self.queue;
+        let was = &self.queue;
         let kept = flows::close(was, flow);
         let answer = kept.answer;
         let Answer::Closed = answer else {
@@ -108,17 +108,11 @@ impl Fair {
     {
         let was = self.queue;
         let time = self.time;
+        let largest = self.largest;
         let flow_was = was.flow_at(flow);
         let quote = packets::quote_of(flow_was, time, length);
         let kept = queue::put(was, flow, length, quote);
         let answer = kept.answer;
-        let Answer::Accepted(_, _, _) = answer else {
-            return Done {
-                lane: self,
-                answer: answer,
-            };
-        };
-        let largest = self.largest;
         let queue = kept.queue;
         Done {
             lane: Fair {
@@ -135,16 +129,20 @@ impl Fair {
         ensures { result ≡ begin_of self }
     {
         let was = self.queue;
+        let largest = self.largest;
         let kept = service::begin(was);
         let answer = kept.answer;
+        let queue = kept.queue;
         let Answer::Begun(_, _, _, time) = answer else {
             return Done {
-                lane: self,
+                lane: Fair {
+                    time: self.time,
+                    largest,
+                    queue,
+                },
                 answer: answer,
             };
         };
-        let largest = self.largest;
-        let queue = kept.queue;
         Done {
             lane: Fair {
                 time,
@@ -160,23 +158,27 @@ impl Fair {
         ensures { result ≡ end_of self }
     {
         let was = self.queue;
+        let served = was.service;
+        let so_far = self.largest;
+        let mut time = self.time;
         let kept = service::end(was);
         let answer = kept.answer;
+        let queue = kept.queue;
         let Answer::Ended(_, _, _) = answer else {
             return Done {
-                lane: self,
+                lane: Fair {
+                    time,
+                    largest: so_far,
+                    queue,
+                },
                 answer: answer,
             };
         };
-        let service = was.service;
-        let so_far = self.largest;
-        let finish = service.finish;
+        let finish = served.finish;
         let largest = tags::later(so_far, finish);
-        let mut time = self.time;
-        if was.waiting() == 0 {
+        if queue.waiting() == 0 {
             time = largest;
         }
-        let queue = kept.queue;
         Done {
             lane: Fair {
                 time,
