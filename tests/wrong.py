@@ -18,7 +18,6 @@ STATIONS = [
             ('specs/Calls.antt', '(largest_ended u) u.time', 'u.time u.time'),
             ('src/lib.rt', 'time = largest;', 'time = self.time;'),
             ('proofs/Calls.antt', 'time_left u ≡ largest_ended u', 'time_left u ≡ u.time'),
-            ('proofs/Fair/end/Proof.antt', 'rw (w .1, largest) (rw (drained', 'rw (w .2, largest) (rw (drained'),
         ],
     ),
     (
@@ -26,7 +25,6 @@ STATIONS = [
             ('specs/Queue.antt', 'by_start start finish = start', 'by_start start finish = finish'),
             ('src/choosing.rt', 'tags::earlier(p.start, b.start)', 'tags::earlier(p.finish, b.finish)'),
             ('src/choosing.rt', 'tags::earlier(b.start, p.start)', 'tags::earlier(b.finish, p.finish)'),
-            ('proofs/choosing/goes_before/Proof.antt', '.start .0', '.finish .0'),
         ],
     ),
     (
