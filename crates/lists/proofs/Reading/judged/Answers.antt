@@ -1,0 +1,9 @@
+-- `judged` meets its contract: an empty line is the empty list.
+use Rattle.std.proofs.Common.{sym, ◌∙◌}
+use borrow.Author.Tests.{not-true}
+use Rattle.link.proofs.Published.{published}
+use Rattle.lists.proofs.Hands.{passed_over}
+use Rattle.lists.proofs.Reading.judged.Goals as goal
+
+pub returns-then-not-hand : goal.returns-then-not-hand
+returns-then-not-hand c = sym (passed_over c.args.self.hand.some _ _ (not-true c.args.self.hand.some c.if-not-hand.true) ∙ published.empty)
