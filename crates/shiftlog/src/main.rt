@@ -10,24 +10,24 @@ mod reading;
 
 ghost use Rattle.std.specs.Prelude.{◌≤◌, length};
 
-use libc::STDIN_FILENO;
 use log_commands::Command;
 use making::write;
 use output::tell;
 use reading::{check, compare, show, tail};
 
-fn main() {
+fn main(rt: HostRuntime) {
+    let mut stdin = rt.stdin();
     let mut input = [0u8; 131_200];
-    let n = io::read_full(STDIN_FILENO, &mut input);
+    let n = streams::fill(&mut stdin, &mut input);
     let line = line_end(&input[..n]);
     let start = past(line, n);
     match log_commands::parse(&input[..line]) {
-        Command::Check => check(&input[start..n]),
-        Command::Show => show(&input[start..n]),
-        Command::Write => write(&mut input, start, n),
-        Command::Diff(first) => compare(&input[start..n], first),
-        Command::Tail(first) => tail(&input[start..n], first),
-        Command::Unknown => tell(b"shiftlog: there is no such command\n"),
+        Command::Check => check(&rt, &input[start..n]),
+        Command::Show => show(&rt, &input[start..n]),
+        Command::Write => write(&rt, &mut input, start, n),
+        Command::Diff(first) => compare(&rt, &input[start..n], first),
+        Command::Tail(first) => tail(&rt, &input[start..n], first),
+        Command::Unknown => tell(&rt, b"shiftlog: there is no such command\n"),
     }
 }
 

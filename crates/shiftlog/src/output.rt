@@ -1,16 +1,14 @@
 // What the program writes.
-use libc::{STDERR_FILENO, STDOUT_FILENO};
-
 // Writes bytes and answers true, or tells that it could not and answers false.
-pub(crate) fn answer(bytes: &[u8]) -> bool {
-    if io::write_all(STDOUT_FILENO, bytes) {
-        return true;
-    }
-    tell(b"shiftlog: the output could not be written\n");
-    false
+pub(crate) fn answer(rt: &HostRuntime, bytes: &[u8]) -> bool {
+    let mut output = rt.stdout();
+    let mut error = rt.stderr();
+    let line = b"shiftlog: the output could not be written\n";
+    streams::put_or_tell(&mut output, bytes, &mut error, line)
 }
 
 // Tells a line on standard error.
-pub(crate) fn tell(line: &[u8]) {
-    io::write_all(STDERR_FILENO, line);
+pub(crate) fn tell(rt: &HostRuntime, line: &[u8]) {
+    let mut error = rt.stderr();
+    streams::put(&mut error, line);
 }

@@ -5,30 +5,30 @@ use crate::output::{answer, tell};
 use log_format::{Contents, Found, Verdict};
 
 // Writes whether bytes are a log, and what it holds or what is wrong.
-pub(crate) fn check(log: &[u8]) {
+pub(crate) fn check(rt: &HostRuntime, log: &[u8]) {
     let mut line = [0u8; 108];
     let verdict = log_reading::read(log);
     let n = log_lines::verdict(verdict, log.len(), &mut line, 0);
-    answer(&line[..n]);
+    answer(rt, &line[..n]);
 }
 
 // Writes a log's records as the lines of a session, each cell with its own deadline, or what is wrong.
-pub(crate) fn show(log: &[u8]) {
+pub(crate) fn show(rt: &HostRuntime, log: &[u8]) {
     match log_reading::read(log) {
-        Verdict::Good(contents) => records(log, contents),
-        Verdict::Refused(fault, place) => check(log),
+        Verdict::Good(contents) => records(rt, log, contents),
+        Verdict::Refused(fault, place) => check(rt, log),
     }
 }
 
 // Writes the records of a log, one after the other, as often as out is full. A record has three bytes at least.
-fn records(log: &[u8], contents: Contents) {
-    let mut out = io::large_buffer();
+fn records(rt: &HostRuntime, log: &[u8], contents: Contents) {
+    let mut out = [0u8; 65_536];
     let mut w: usize = 0;
     let mut k: usize = 0;
     let most = log.len() / 3;
     while k < most {
         if out.len() - w < 108 {
-            if !answer(&out[..w]) {
+            if !answer(rt, &out[..w]) {
                 return;
             }
             w = 0;
@@ -36,7 +36,7 @@ fn records(log: &[u8], contents: Contents) {
         w = record_line(log, contents, k, &mut out, w);
         k += 1;
     }
-    answer(&out[..w]);
+    answer(rt, &out[..w]);
 }
 
 // Puts the line of a record by its index through all three bodies; past the last one nothing.
@@ -71,22 +71,22 @@ fn opening_line(urgent: bool, found: Found, out: &mut [u8], at: usize) -> usize
 }
 
 // Writes where two logs, of which the first has so many bytes, first differ.
-pub(crate) fn compare(logs: &[u8], first: usize) {
+pub(crate) fn compare(rt: &HostRuntime, logs: &[u8], first: usize) {
     if logs.len() < first {
-        tell(b"shiftlog: the first log is cut short\n");
+        tell(rt, b"shiftlog: the first log is cut short\n");
         return;
     }
     let mut line = [0u8; 108];
     let place = log_pairs::first_difference(&logs[..first], &logs[first..]);
     let n = log_lines::difference(place, &mut line, 0);
-    answer(&line[..n]);
+    answer(rt, &line[..n]);
 }
 
 // Writes the tail of the longer of two logs, of which the first has so many bytes.
-pub(crate) fn tail(logs: &[u8], first: usize) {
+pub(crate) fn tail(rt: &HostRuntime, logs: &[u8], first: usize) {
     if logs.len() < first {
-        tell(b"shiftlog: the first log is cut short\n");
+        tell(rt, b"shiftlog: the first log is cut short\n");
         return;
     }
-    answer(log_pairs::tail(&logs[..first], &logs[first..]));
+    answer(rt, log_pairs::tail(&logs[..first], &logs[first..]));
 }
