@@ -74,7 +74,7 @@ impl Station {
     {
         let lane = self.urgent;
         let done = lane.open(flow, deadline);
-        by_urgent(self, done)
+        by_urgent(self.fair, done)
     }
 
     // Opens a flow of the fair lane with a weight.
@@ -83,7 +83,7 @@ impl Station {
     {
         let lane = self.fair;
         let done = lane.open(flow, weight);
-        by_fair(self, done)
+        by_fair(self.urgent, done)
     }
 
     // Closes a flow of the urgent lane that has no cell waiting.
@@ -92,7 +92,7 @@ impl Station {
     {
         let lane = self.urgent;
         let done = lane.close(flow);
-        by_urgent(self, done)
+        by_urgent(self.fair, done)
     }
 
     // Closes a flow of the fair lane that has no packet waiting or in service.
@@ -101,7 +101,7 @@ impl Station {
     {
         let lane = self.fair;
         let done = lane.close(flow);
-        by_fair(self, done)
+        by_fair(self.urgent, done)
     }
 
     // Offers a cell of a flow to the urgent lane, with a deadline of its own.
@@ -110,7 +110,7 @@ impl Station {
     {
         let lane = self.urgent;
         let done = lane.offer(flow, deadline);
-        by_urgent(self, done)
+        by_urgent(self.fair, done)
     }
 
     // Offers a packet of a flow to the fair lane.
@@ -119,7 +119,7 @@ impl Station {
     {
         let lane = self.fair;
         let done = lane.offer(flow, length);
-        by_fair(self, done)
+        by_fair(self.urgent, done)
     }
 
     // A turn of the radio, open or lost.
@@ -128,7 +128,7 @@ impl Station {
     {
         let lane = self.urgent;
         let done = lane.turn(usable);
-        by_urgent(self, done)
+        by_urgent(self.fair, done)
     }
 
     // Takes a waiting packet into service.
@@ -137,7 +137,7 @@ impl Station {
     {
         let lane = self.fair;
         let done = lane.begin();
-        by_fair(self, done)
+        by_fair(self.urgent, done)
     }
 
     // Ends the packet in service.
@@ -146,10 +146,11 @@ impl Station {
     {
         let lane = self.fair;
         let done = lane.end();
-        by_fair(self, done)
+        by_fair(self.urgent, done)
     }
 
     // Answers any call.
+    #[tactic(auto, unfolding(crate::specs::Calls::call_of))]
     pub fn call(self, call: Call) -> Called
         ensures { result ≡ call_of self call }
     {
@@ -169,12 +170,11 @@ impl Station {
 }
 
 // The station after a call on the urgent lane: that lane as the call left it, and the other as it was.
-fn by_urgent(station: Station, done: urgent::Done) -> Called
-    ensures { result ≡ by_urgent station done }
+fn by_urgent(fair: Fair, done: urgent::Done) -> Called
+    ensures { result ≡ by_urgent (record { urgent = done.lane; fair = fair }) done }
 {
     let lane = done.lane;
     let answer = done.answer;
-    let fair = station.fair;
     Called {
         station: Station { urgent: lane, fair },
         reply: Reply::Urgent(answer),
@@ -182,12 +182,11 @@ fn by_urgent(station: Station, done: urgent::Done) -> Called
 }
 
 // The station after a call on the fair lane: that lane as the call left it, and the other as it was.
-fn by_fair(station: Station, done: fair::Done) -> Called
-    ensures { result ≡ by_fair station done }
+fn by_fair(urgent: Urgent, done: fair::Done) -> Called
+    ensures { result ≡ by_fair (record { urgent = urgent; fair = done.lane }) done }
 {
     let lane = done.lane;
     let answer = done.answer;
-    let urgent = station.urgent;
     Called {
         station: Station { urgent, fair: lane },
         reply: Reply::Fair(answer),
