@@ -5,6 +5,7 @@ ghost use Rattle.std.specs.Prelude.{◌≡◌};
 ghost use Rattle.classes.specs.Calls.{begin_of, end_of};
 
 use classes::{Answer, Classes, Done};
+use packets::Queue;
 use units::Refusal;
 
 // Takes into service the packet of the flow that the way down the tree comes to; where a finish on its way would pass the largest tag,
@@ -12,22 +13,31 @@ use units::Refusal;
 pub fn begin(lane: Classes) -> Done
     ensures { result ≡ begin_of lane }
 {
-    let tree = lane.tree;
-    let was = lane.queue;
-    let met = descent::flow_met(tree);
+    let tree_was = &lane.tree;
+    let queue_was = &lane.queue;
+    let service = queue_was.service;
+    let flows = queue_was.flows;
+    let packets = queue_was.packets;
+    let was = Queue {
+        service,
+        flows,
+        packets,
+    };
+    let met = descent::flow_met(tree_was);
     let kept = taking::take(was, met);
     let answer = kept.answer;
     let packets::Answer::Refused(refusal) = answer else {
         let queue = kept.queue;
         let served = queue.service;
-        if charging::passes(tree, served.flow, served.length) {
+        if charging::passes(tree_was, served.flow, served.length) {
             return Done {
                 lane,
                 answer: Answer::Refused(Refusal::TagsUsedUp),
             };
         }
-        let node = tree.flow_node(served.flow);
+        let node = tree_was.flow_node(served.flow);
         let start = node.start;
+        let tree = lane.tree;
         let begun = charging::begin(tree, served.flow, served.length);
         return Done {
             lane: Classes { tree: begun, queue },
@@ -45,20 +55,21 @@ pub fn end(lane: Classes) -> Done
     ensures { result ≡ end_of lane }
 {
     let was = lane.queue;
+    let served = was.service;
     let kept = service::end(was);
     let answer = kept.answer;
+    let queue = kept.queue;
     let packets::Answer::Refused(refusal) = answer else {
-        let served = was.service;
         let tree_was = lane.tree;
         let tree = ascent::end(tree_was, served.flow);
-        let queue = kept.queue;
         return Done {
             lane: Classes { tree, queue },
             answer: Answer::Ended(served.flow, served.number, served.length),
         };
     };
+    let tree = lane.tree;
     Done {
-        lane,
+        lane: Classes { tree, queue },
         answer: Answer::Refused(refusal),
     }
 }

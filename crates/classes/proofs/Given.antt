@@ -5,12 +5,10 @@ use mathlib.Core.Bool.{Bool, true, false}
 use mathlib.Core.List.{[], ◌∷◌}
 use mathlib.Core.Option.{Option, none}
 use Prim.Native.Nat.{ℕ}
-use types.Run.{OneOf, miss}
-use denote.Enum.Declared.{tag_of}
 use Rattle.units.specs.Refusals.{first_of, unless}
 use Rattle.units.specs.declared.Refusal.{Refusal}
 use Rattle.units.specs.declared.Refusal.TheVariants.{TagsUsedUp, PacketInService, NothingWaits, NoCommand}
-use Rattle.units.proofs.Refusals.{none_is_none, first_skip, both_cases}
+use Rattle.units.proofs.Refusals.{none_is_none, first_skip, both_cases, unless_same}
 use Rattle.places.specs.Choice.{Choice, nothing, at}
 use Rattle.tags.specs.declared.Packet.{Packet}
 use Rattle.tags.specs.Grounds.{opening_grounds}
@@ -18,11 +16,11 @@ use Rattle.packets.specs.declared.Answer.{Answer as QueueAnswer}
 use Rattle.packets.specs.declared.Answer.TheVariants.{Refused as RefusedIn, Opened as OpenedIn, Closed as ClosedIn, Accepted, Begun as BegunIn, Ended as EndedIn}
 use Rattle.packets.specs.declared.Flows.{Flows}
 use Rattle.packets.specs.declared.Kept.{Kept}
+use Rattle.packets.specs.declared.Queue.{Queue}
 use Rattle.packets.specs.Answers.{refusal_in}
 use Rattle.packets.specs.Queue.{flow_at, end_grounds}
-use Rattle.packets.specs.Calls.{refused_flows, queue_with, put_of, placed}
+use Rattle.packets.specs.Calls.{refused_flows, queue_with, put_grounds, put_of, placed}
 use Rattle.packets.specs.Calls.{refused as refused_in, begun as begun_in, opened as opened_in, open_of as open_in, closed as closed_in, close_of as close_in, ended as ended_in, end_of as end_in}
-use Rattle.packets.specs.contracts.Answer.{the_type}
 use Rattle.tree.specs.declared.Tree.{Tree}
 use Rattle.tree.specs.Tree.{node_of, node_at, with_node}
 use Rattle.tree.specs.Steps.{weighed_node}
@@ -31,13 +29,13 @@ use Rattle.ascent.specs.Ascent.{offered_to, passes_for, begun_from, ended_from}
 use Rattle.taking.specs.Taking.{is_none, take_of}
 use Rattle.classes.specs.declared.Classes.{Classes}
 use Rattle.classes.specs.declared.Done.{Done}
-use Rattle.classes.specs.declared.Answer.TheVariants.{Opened, Closed, Taken, Begun, Ended}
+use Rattle.classes.specs.declared.Answer.TheVariants.{Refused, Opened, Closed, Taken, Begun, Ended}
 use Rattle.classes.specs.Lane.{chosen, beyond}
 use Rattle.classes.specs.Calls.{refused, done, opened, open_of, closed, close_grounds, close_of, untagged, taken, offer_grounds, offer_of, begun, begin_of, ended, end_of}
 
 -- the answer is none of the refusals
 abbrev pub Other : QueueAnswer → Type 0
-Other a = OneOf (1 ∷ 2 ∷ 3 ∷ 4 ∷ 5 ∷ []) (tag_of the_type a)
+Other a = (r : Refusal) → a ≡ RefusedIn r → ⊥
 
 -- what a call gives by the queue's answer: a refusal hands the lane back, and any other gives this
 abbrev pub ByAnswer : Classes → QueueAnswer → Done → Done → Type 0
@@ -55,7 +53,7 @@ refusal_of (EndedIn f n l) = NoCommand
 -- what the queue refuses is refused
 refused_by : (u : Classes) (gives : Done) (r : Refusal) → ByAnswer u (RefusedIn r) gives (refused u r)
 unfolding refusal_of
-refused_by u gives r = (λ s e. ap (λ (a : QueueAnswer). refused u (refusal_of a)) (sym e), λ k. absurd (miss (1 ∷ 2 ∷ 3 ∷ 4 ∷ 5 ∷ []) 0 tt k))
+refused_by u gives r = (λ s e. ap (λ (a : QueueAnswer). refused u (refusal_of a)) (sym e), λ k. absurd (k r refl))
 
 -- and what it does not goes through
 given_by : (u : Classes) (gives : Done) (a : QueueAnswer) → refusal_in a ≡ none → ByAnswer u a gives gives
@@ -74,6 +72,13 @@ module _ (u : Classes) (o : Option Refusal) (gives : Done) where
   by_queue d p given e =
       both_cases (refused_in u.queue) (refused u) (λ (x : Kept) (y : Done). ByAnswer u x.answer (given x) y)
       (λ r. refused_by u (given (refused_in u.queue r)) r) o d gives (rw e (given_by u gives d.answer p))
+
+-- a queue that refuses a call is as it was
+kept_same : (q : Queue) (o : Option Refusal) (d : Kept) → refusal_in d.answer ≡ none → (r : Refusal) → (unless (refused_in q) o d).answer ≡ RefusedIn r
+    → (unless (refused_in q) o d).queue ≡ q
+kept_same q o d p r e =
+    unless_same (refused_in q) (λ (x : Kept). refusal_in x.answer) (λ (x : Kept). x.queue) q (λ s. refl) o d
+    (λ s t. absurd (none_is_none s (sym p ∙ t))) r (ap refusal_in e)
 
 module _ (u : Classes) where
   pub open_by : (flow weight : ℕ) (d : Flows) → d ≡ open_in u.queue flow weight → (t : Tree)
@@ -101,6 +106,15 @@ module _ (u : Classes) where
       (by_queue u (first_of (offer_grounds u flow length)) (taken u flow length) (placed u.queue flow length untagged) refl
       (λ (x : Kept). done (offered_to u.tree flow) x.queue (Taken (flow_at u.queue flow).next)) refl)
 
+  -- an offer that the queue refuses, with the queue that it hands back
+  pub offer_back : (flow length : ℕ) (d : Kept) → d ≡ put_of u.queue flow length untagged → (r : Refusal) → d.answer ≡ RefusedIn r
+      → done u.tree d.queue (Refused r) ≡ offer_of u flow length
+  unfolding put_of
+  offer_back flow length d e r p =
+      let same : (put_of u.queue flow length untagged).queue ≡ u.queue = kept_same u.queue (first_of (put_grounds u.queue flow length untagged)) (placed u.queue flow length untagged) refl r (rw e at p) in
+      ap (λ (x : Queue). done u.tree x (Refused r)) (ap (λ (x : Kept). x.queue) e ∙ same)
+      ∙ (offer_by flow length d e (offered_to u.tree flow) refl).0 r p
+
   pub end_by : (d : Kept) → d ≡ end_in u.queue → (t : Tree) → t ≡ ended_from u.tree u.queue.service.flow
       → ByAnswer u d.answer (done t d.queue (Ended u.queue.service.flow u.queue.service.number u.queue.service.length)) (end_of u)
   unfolding end_of end_in
@@ -109,6 +123,14 @@ module _ (u : Classes) where
       (by_queue u (first_of (end_grounds u.queue)) (ended u) (ended_in u.queue) refl
       (λ (x : Kept). done (ended_from u.tree u.queue.service.flow) x.queue (Ended u.queue.service.flow u.queue.service.number u.queue.service.length))
       refl)
+
+  -- an end that the queue refuses, with the queue that it hands back
+  pub end_back : (d : Kept) → d ≡ end_in u.queue → (r : Refusal) → d.answer ≡ RefusedIn r → done u.tree d.queue (Refused r) ≡ end_of u
+  unfolding end_in
+  end_back d e r p =
+      let same : (end_in u.queue).queue ≡ u.queue = kept_same u.queue (first_of (end_grounds u.queue)) (ended_in u.queue) refl r (rw e at p) in
+      ap (λ (x : Queue). done u.tree x (Refused r)) (ap (λ (x : Kept). x.queue) e ∙ same)
+      ∙ (end_by d e (ended_from u.tree u.queue.service.flow) refl).0 r p
 
 -- begin, by what taking gave: a refusal is handed on; a packet that would pass the largest tag is refused, and any other begun
 abbrev Begins : Classes → Kept → Done → Type 0
@@ -127,8 +149,8 @@ module _ (u : Classes) where
       → Begins u (unless (refused_in u.queue) (first_of ((PacketInService, busy) ∷ (NothingWaits, is_none c) ∷ [])) (begun_in u.queue c))
       (unless (refused u) (first_of ((PacketInService, busy) ∷ (NothingWaits, is_none c) ∷ (TagsUsedUp, beyond u c) ∷ [])) (begun u c))
   unfolding first_of
-  begins true c = ((refused_by u (refused u PacketInService) PacketInService).0, λ k. absurd (miss (1 ∷ 2 ∷ 3 ∷ 4 ∷ 5 ∷ []) 0 tt k))
-  begins false nothing = ((refused_by u (refused u NothingWaits) NothingWaits).0, λ k. absurd (miss (1 ∷ 2 ∷ 3 ∷ 4 ∷ 5 ∷ []) 0 tt k))
+  begins true c = ((refused_by u (refused u PacketInService) PacketInService).0, λ k. absurd (k PacketInService refl))
+  begins false nothing = ((refused_by u (refused u NothingWaits) NothingWaits).0, λ k. absurd (k NothingWaits refl))
   begins false (at place p) = (λ r e. absurd (none_is_none r (ap refusal_in e)), λ k. (λ b. rw b, λ b. rw b))
 
   pub begin_by : (d : Kept) → d ≡ take_of u.queue (flow_met u.tree) → Begins u d (begin_of u)
