@@ -40,6 +40,21 @@ pub grounds_admit : (long : Bool) (ds : List Declaration) → admits (grounds_of
 grounds_admit true ds e = absurd (true≢false (sym e))
 grounds_admit false ds e = (refl, both_admit (by_numbers 0 ds) (by_rate ds) e)
 
+-- of a list that is not too long: its first bad declaration, its rate, or nothing, once it is known what its numbers are told
+module _ (ds : List Declaration) (v : Verdict) (is : v ≡ by_numbers 0 ds) where
+  pub numbers_held : admits v ≡ false → v ≡ grounds_of false ds
+  numbers_held e = is ∙ sym (held (by_numbers 0 ds) (by_rate ds) (rw is at e))
+
+  module _ (none : admits v ≡ true) where
+    by_rate_lem : by_rate ds ≡ grounds_of false ds
+    by_rate_lem = sym (passed (by_numbers 0 ds) (by_rate ds) (rw is at none))
+
+    pub rate_held : 5040 < rate_of ds → Rate ≡ grounds_of false ds
+    rate_held l = let fast : by_rate ds ≡ Rate = rw (lt-ltb 5040 (rate_of ds) l) in sym fast ∙ by_rate_lem
+
+    pub nothing_held : rate_of ds ≤ 5040 → Admitted ≡ grounds_of false ds
+    nothing_held l = let slow : by_rate ds ≡ Admitted = rw (le-ltb 5040 (rate_of ds) l) in sym slow ∙ by_rate_lem
+
 -- the verdict: too long; a bad declaration; too high a rate; and else the test's
 pub judged_long : (ds : List Declaration) → judged_of true ds ≡ Refused ListTooLong
 judged_long ds = refl

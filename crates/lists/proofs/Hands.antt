@@ -1,12 +1,12 @@
 -- One byte of a line: each way that it can go, by the tests that lead there.
-use mathlib.Core.Bool.{Bool, true, false, cond}
+use mathlib.Core.Bool.{Bool, true, false, cond, ◌&&◌, not}
 use mathlib.Core.Path.{◌≡◌, ◌∙◌, ap}
 use Prim.Native.Nat.{ℕ, ◌-◌}
 use borrow.Author.Tests.{eq-eqb, ne_eqb}
 use lib.Dec.{eqb}
 use Rattle.text.specs.Reading.{blank, is_digit, grown, goes_on}
 use Rattle.lists.specs.declared.taking.Hand.{Hand}
-use Rattle.lists.specs.Reading.{ended_of, at_hand, spoilt, takes_of}
+use Rattle.lists.specs.Reading.{ended_of, at_hand, spoilt, takes_of, whole_at}
 
 -- a choice by a test whose answer is known
 pub chosen : {A : Type 0} (t : Bool) (x y : A) → t ≡ true → cond t x y ≡ x
@@ -14,6 +14,16 @@ chosen t x y e = ap (λ (s : Bool). cond s x y) e
 
 pub passed_over : {A : Type 0} (t : Bool) (x y : A) → t ≡ false → cond t x y ≡ y
 passed_over t x y e = ap (λ (s : Bool). cond s x y) e
+
+-- no number is at hand; the line is no list's text; or all hangs on how many numbers were given
+pub whole_none : (h : Hand) → h.begun ≡ false → whole_at h ≡ false
+whole_none h e = ap (λ (t : Bool). t && (not h.bad && eqb h.given 2)) e
+
+pub whole_bad : (h : Hand) → h.begun ≡ true → h.bad ≡ true → whole_at h ≡ false
+whole_bad h e f = ap (λ (t : Bool). t && (not h.bad && eqb h.given 2)) e ∙ ap (λ (t : Bool). not t && eqb h.given 2) f
+
+pub whole_given : (h : Hand) → h.begun ≡ true → h.bad ≡ false → whole_at h ≡ eqb h.given 2
+whole_given h e f = ap (λ (t : Bool). t && (not h.bad && eqb h.given 2)) e ∙ ap (λ (t : Bool). not t && eqb h.given 2) f
 
 -- a number goes on at hand
 pub still_at_hand : (h : Hand) (value : ℕ) → h.begun ≡ true
