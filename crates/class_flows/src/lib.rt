@@ -11,15 +11,15 @@ use packets::Queue;
 pub fn open(lane: Classes, flow: u64, weight: u64) -> Done
     ensures { result ≡ open_of lane flow weight }
 {
-    let was = lane.queue;
+    let was = &lane.queue;
     let kept = flows::open(was, flow, weight);
     let answer = kept.answer;
     let packets::Answer::Refused(refusal) = answer else {
-        let tree_was = lane.tree;
-        let tree = tree_was.weigh(flow, weight);
         let service = was.service;
         let flows = kept.flows;
         let packets = was.packets;
+        let tree_was = lane.tree;
+        let tree = tree_was.weigh(flow, weight);
         return Done {
             lane: Classes {
                 tree,
@@ -42,14 +42,14 @@ pub fn open(lane: Classes, flow: u64, weight: u64) -> Done
 pub fn close(lane: Classes, flow: u64) -> Done
     ensures { result ≡ close_of lane flow }
 {
-    let was = lane.queue;
+    let was = &lane.queue;
     let kept = flows::close(was, flow);
     let answer = kept.answer;
     let packets::Answer::Refused(refusal) = answer else {
-        let tree = lane.tree;
         let service = was.service;
         let flows = kept.flows;
         let packets = was.packets;
+        let tree = lane.tree;
         return Done {
             lane: Classes {
                 tree,

@@ -21,17 +21,20 @@ pub fn offer(lane: Classes, flow: u64, length: u64) -> Done
     let flow_was = was.flow_at(flow);
     let kept = queue::put(was, flow, length, quote);
     let answer = kept.answer;
+    let queue = kept.queue;
+    let tree_was = lane.tree;
     let packets::Answer::Refused(refusal) = answer else {
-        let tree_was = lane.tree;
         let tree = ascent::offer(tree_was, flow);
-        let queue = kept.queue;
         return Done {
             lane: Classes { tree, queue },
             answer: Answer::Taken(flow_was.next),
         };
     };
     Done {
-        lane,
+        lane: Classes {
+            tree: tree_was,
+            queue,
+        },
         answer: Answer::Refused(refusal),
     }
 }
