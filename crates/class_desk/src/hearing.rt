@@ -22,6 +22,7 @@ impl Desk {
     }
 
     // Hears any command: a tree is described and set up, once, and calls are answered from then on.
+    #[tactic(auto, unfolding(crate::specs::Desk::hear_of))]
     pub fn hear(self, command: Command) -> Heard
         ensures { result ≡ hear_of self command }
     {

@@ -59,8 +59,8 @@ impl Desk {
         let was = self.lane;
         let planted = planting::set_up(was, plan);
         let answer = planted.answer;
+        let lane = planted.lane;
         let planting::Answer::Refused(refusal) = answer else {
-            let lane = planted.lane;
             return Heard {
                 desk: Desk {
                     ready: true,
@@ -71,9 +71,12 @@ impl Desk {
             };
         };
         let none = describing::no_plan();
-        let desk = self.describing(none);
         Heard {
-            desk,
+            desk: Desk {
+                ready: false,
+                plan: none,
+                lane,
+            },
             reply: Reply::Refused(refusal),
         }
     }
