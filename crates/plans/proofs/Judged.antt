@@ -1,12 +1,33 @@
 -- What the judgement of a description comes to, from the tests that lead to it.
-use mathlib.Core.Path.{◌≡◌, sym, ap, ◌∙◌}
-use mathlib.Core.Bool.{Bool, true, false, ◌||◌}
+use mathlib.Core.Path.{◌≡◌, refl, sym, ap, ◌∙◌}
+use mathlib.Core.Bool.{Bool, true, false, not, ◌&&◌, ◌||◌}
 use Prim.Native.Nat.{ℕ, suc, ◌+◌}
 use native.Mathlib.Omega.{arith}
+use borrow.Author.Tests.{eq-eqb, ne_eqb}
+use lib.Dec.{eqb}
 use Rattle.units.specs.Limits.{outside_of}
 use Rattle.plans.specs.declared.Plan.{Plan}
 use Rattle.plans.specs.Numbered.{any_from}
-use Rattle.plans.specs.Plans.{bad_class, bad_flow, broken}
+use Rattle.plans.specs.Plans.{parent_in, deeper, bad_class, bad_flow, broken}
+
+module _ (p : Plan) (class : ℕ) where
+  -- the root is reached
+  pub deep_root : (n : ℕ) → class ≡ 0 → false ≡ deeper (suc n) p class
+  unfolding deeper
+  deep_root n e = rw (eq-eqb class 0 e)
+
+  -- one step further up
+  pub deep_on : (n : ℕ) → (class ≡ 0 → ⊥) → deeper n p (parent_in p class) ≡ deeper (suc n) p class
+  unfolding deeper
+  deep_on n e = rw (ne_eqb class 0 e)
+
+  pub deep_last : not (eqb class 0) ≡ deeper 1 p class
+  unfolding deeper
+  deep_last = go (eqb class 0)
+    where
+      go : (b : Bool) → not b ≡ (not b && true)
+      go true = refl
+      go false = refl
 
 -- a test over numbers, one number after the other
 module _ (test : ℕ → Bool) (k n m : ℕ) (d : n ≡ suc m) where
