@@ -1,0 +1,10 @@
+-- `Session::finish` meets its contract: a line that has a byte is answered what a line feed is answered.
+use Rattle.std.proofs.Common.{rules}
+use Rattle.text.proofs.Feeding.{fed_printed}
+use Rattle.class_replies.specs.Printing.{longest}
+use Rattle.class_session.specs.Steps.{step_of}
+use Rattle.class_session.proofs.Steps.{finish_text}
+use Rattle.class_session.proofs.Session.finish.Goals as goal
+
+pub returns : goal.returns
+returns c = fed_printed step_of longest c.feed-fed.ensures (finish_text c.args.self c.if-count-eq0.false) (search rules) (search rules)
