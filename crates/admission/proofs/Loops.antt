@@ -9,6 +9,11 @@ use native.Mathlib.Omega.{arith}
 use lib.Dec.{ltb, leb}
 use lib.ListN.{length, drop, get_or, drop_of_length-le}
 use lib.Seq.{drop-cons, get_or-take, length-take-le}
+use mir.Val.{Val}
+use denote.Laws.{Is}
+use denote.Struct.Laws as LL
+use Rattle.admission.specs.contracts.Table as S
+use Rattle.admission.proofs.Table.TheLaws as S'
 use Rattle.link.specs.declared.Declaration.{Declaration}
 use Rattle.admission.specs.declared.Table.{Table}
 use Rattle.link.specs.declared.Verdict.TheVariants.{Admitted, FailsAt}
@@ -19,6 +24,10 @@ use Rattle.link.specs.Rate.{rate_of, greatest_of}
 use Rattle.link.specs.Verdicts.{admits, or_else, by_declaration, by_numbers}
 use Rattle.link.proofs.Judged.{held, passed}
 use Rattle.link.proofs.Searched.{passes, fails, ends}
+
+-- a table that is owned has sixteen places
+pub sixteen : (table : Table) (vs : List Val) → Is S.the_row table vs → length table.items ≡ 16
+sixteen table vs is = (LL.owed S.the_type S'.the_laws table vs is).1.0.1.0.1
 
 -- one turn of a loop over a table: the declaration at k, and those after it
 module _ (table : Table) (len : length table.items ≡ 16) (few : table.count ≤ 16) (k : ℕ) where
