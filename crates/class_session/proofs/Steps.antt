@@ -1,16 +1,31 @@
--- Each way that a byte can go, and the end, as steps.
-use mathlib.Core.Path.{◌≡◌}
+-- What a line was parsed as, each way that a byte can go, and the end, as steps.
+use mathlib.Core.Path.{◌≡◌, refl, ap}
 use mathlib.Core.List.{List, []}
+use mathlib.Core.Option.{Option, none, some}
 use Prim.Native.Nat.{ℕ, ◌+◌, ◌≤◌, ◌<◌}
+use native.Mathlib.Omega.{arith}
 use borrow.Author.Tests.{eq-eqb, ne_eqb, lt-ltb, le-ltb}
 use lib.ListN.{set}
-use Rattle.text.specs.Lines.{line_feed}
-use Rattle.text.proofs.Feeding.{Going}
+use Rattle.text.specs.Lines.{line_feed, Printed}
+use Rattle.text.proofs.Feeding.{Going, printed_nothing}
+use Rattle.class_desk.specs.declared.Command as desk
 use Rattle.class_desk.specs.declared.Desk.{Desk}
 use Rattle.class_desk.specs.declared.Heard.{Heard}
+use Rattle.class_lines.specs.declared.Parsed.{Parsed}
+use Rattle.class_lines.specs.declared.Parsed.TheVariants.{Command, NoCommand}
+use Rattle.class_lines.specs.Reading.{parsed_of}
 use Rattle.class_replies.specs.Printing.{line_of, longest}
 use Rattle.class_session.specs.declared.Session.{Session}
 use Rattle.class_session.specs.Steps.{answered_by, step_of, finish_of}
+
+-- what was parsed, read back
+pub asked : (o : Option desk.Command) (r : Parsed) (c : desk.Command) → r ≡ parsed_of o → r ≡ Command c → o ≡ some c
+asked none r c p q = let z : ◌≡◌ {A = ℕ} 0 1 = cc in absurd (omega arith)
+asked (some d) r c p q = let e : d ≡ c = cc in ap some e
+
+pub not_asked : (o : Option desk.Command) (r : Parsed) → r ≡ parsed_of o → r ≡ NoCommand → o ≡ none
+not_asked none r p q = refl
+not_asked (some d) r p q = let z : ◌≡◌ {A = ℕ} 0 1 = cc in absurd (omega arith)
 
 -- a desk and the line kept
 abbrev pub made : Desk → List ℕ → ℕ → Session
@@ -38,6 +53,9 @@ pub arrived : {s : Session} {input was is is' : List ℕ} {d d' : Desk} {kept ke
 arrived a b c e f g = rw (a, b, c, e, f) g
 
 -- the end of the input
+pub finish_empty : (s : Session) (out : List ℕ) → s.count ≡ 0 → Printed (finish_of s) out out 0
+finish_empty s out e = rw (eq-eqb s.count 0 e) (printed_nothing out)
+
 pub finish_text : (s : Session) → (s.count ≡ 0 → ⊥) → (step_of s line_feed).text ≡ finish_of s
 unfolding step_of
 finish_text s n = rw (ne_eqb s.count 0 n)
