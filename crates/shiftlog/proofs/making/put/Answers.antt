@@ -1,5 +1,5 @@
 -- A log that was written fits its room.
-use Rattle.std.proofs.Common.{◌≤◌, length, arith, rules, sym, refl, length-take-le}
+use Rattle.std.proofs.Common.{arith, sym, refl, length-take-le}
 use Rattle.shiftlog.proofs.Laws.{fits_room}
 use Rattle.shiftlog.proofs.making.put.Goals as goal
 
