@@ -1,4 +1,4 @@
-// What the programs read from and write to: pieces of input as they come, and bytes that are written whole or not at all told as written.
+// What the programs read and write: the input piece by piece as it comes, or until a room is full; bytes whole, or told as unwritten.
 #![tactic(auto)]
 
 ghost use Rattle.std.specs.Prelude.{◌≡◌, ◌<◌, ◌≤◌, ⊤, length, take, IsTrue, MatchOption, decimal};

@@ -1,3 +1,4 @@
+-- With room for a line, some byte of what is left of the piece is taken at each turn.
 use Rattle.std.proofs.Common.{◌≡◌, ◌-◌, length, take, drop, arith, rules, length-drop, length-take-le}
 use Rattle.text.proofs.Feeding.{feed_takes}
 use Rattle.session.specs.Steps.{step_of}
