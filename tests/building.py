@@ -9,9 +9,13 @@ import time
 import entry
 from support import ROOT, fail, folder, run, start
 
-LOW = '// One.\n#![tactic(auto)]\n\npub fn one() -> u64 {\n    1\n}\n'
 MAIN = '// Writes one.\n#![tactic(auto)]\n\nfn main(rt: HostRuntime) -> std::io::Result<()> {\n    let one = low::one();\n    print!(rt; "{one}")\n}\n'
 PROGRESS = b'tuhkeliar: proving and building tuhkeliar: 2 crates\n[1/2] low\n[2/2] tuhkeliar\n'
+
+
+def low(value='1'):
+    """The text of the crate below, which no run before has proved: rt would take what that kept."""
+    return '// One, of run %s.\n#![tactic(auto)]\n\npub fn one() -> u64 {\n    %s\n}\n' % (os.urandom(8).hex(), value)
 
 
 def small(at):
@@ -20,8 +24,8 @@ def small(at):
     shutil.copy(ROOT / 'tuhkeliar', at / 'tuhkeliar')
     for name, text in (
         ('crates.txt', '# the program is last\nlow:\nother: low\ntuhkeliar: low\n'),
-        ('crates/low/src/lib.rt', LOW),
-        ('crates/other/src/lib.rt', LOW),
+        ('crates/low/src/lib.rt', low()),
+        ('crates/other/src/lib.rt', low()),
         ('crates/tuhkeliar/src/main.rt', MAIN),
         ('crates/tuhkeliar/stdout', '1'),
     ):
@@ -61,11 +65,11 @@ def first_run():
     if got != expected:
         fail('the first run: %r' % (got,))
     entry.silent('the second run', command, b'', b'1')
-    (home / 'crates' / 'low' / 'src' / 'lib.rt').write_text('// Number one.' + LOW[len('// One.'):])
+    (home / 'crates' / 'low' / 'src' / 'lib.rt').write_text(low())
     both = [start(command, stdin=subprocess.DEVNULL, stdout=subprocess.PIPE, stderr=subprocess.PIPE) for _ in range(2)]
     if [one.communicate()[0] for one in both] != [b'1', b'1']:
         fail('two runs at once break each other')
-    (home / 'crates' / 'low' / 'src' / 'lib.rt').write_text(LOW.replace('1', '1 - 2'))
+    (home / 'crates' / 'low' / 'src' / 'lib.rt').write_text(low('1 - 2'))
     status, wrote, said = run(command)
     log = home / 'target' / 'build' / 'tuhkeliar.log'
     lines = said.decode().split('\n')
