@@ -1,9 +1,9 @@
 /* A station in C: two flows open, three cells and a packet are offered, one of the cells to go at once, and the radio comes by.
 
-   rt staticlib tuhkeliar_c
+   tools/build tuhkeliar_c
    cc -Iinclude examples/station.c -Ltarget/staticlib -ltuhkeliar_c -o station && ./station
 
-   (on another processor than x86-64: x86_64-linux-gnu-gcc, and tools/start ./station) */
+   (where cc compiles for x86-64) */
 #include <inttypes.h>
 #include <stdio.h>
 

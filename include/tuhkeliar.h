@@ -3,17 +3,17 @@
    A call takes the station by value and hands it back beside the answer; any call with any numbers is answered. The same calls with `_at` in
    their names work on a station that stays where it is: they are what most programs want.
 
-   Linking: `rt staticlib tuhkeliar_c` proves the library and writes target/staticlib/libtuhkeliar_c.a, for x86-64:
+   Linking: `tools/build tuhkeliar_c` proves the library and writes target/staticlib/libtuhkeliar_c.a, for x86-64:
 
        cc -Iinclude program.c -Ltarget/staticlib -ltuhkeliar_c
 
    where cc compiles for x86-64 (x86_64-linux-gnu-gcc on another processor).
 
-   From outside the archive needs memcpy and memmove, and nothing else: no heap, no files, no C library beside these two.
+   From outside the archive needs memcpy, memmove and memset, and nothing else: no heap, no files, no C library beside these three.
    Threads: no call keeps anything or shares anything with another, so threads with a station each need no lock; one station is one thread's at a time.
    Stack: a station has 17,344 bytes, a class lane 13,168. A by-value call takes up to 75 kB below its caller (62 kB in the class lane), and its
    caller keeps about 35 kB (27 kB) for each such call that is written in it; a call with `_at` takes up to 109 kB (88 kB) in all while it lasts,
-   and its caller next to nothing. Measured with gcc 12, -O2. */
+   and its caller next to nothing. Measured with gcc 12, -O2, and the older kit, rattle-kit-5b. */
 #ifndef TUHKELIAR_H
 #define TUHKELIAR_H
 

@@ -29,6 +29,7 @@ replies_spelled =
       ended = λ flow number length. record { tells = refl; written = refl };
       lane_refused = λ refusal. (refl, refl);
       refused = λ refusal. refl;
+      bad_tree_numbered = refl;
       bad_tree = refl;
       no_command = refl;
     }

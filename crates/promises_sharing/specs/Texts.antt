@@ -53,5 +53,6 @@ pub record RepliesSpelled : Type 0 where
       → (told (LaneRefused refusal) ≡ record { number = number_of refusal; values = [] })
       × (line_of (Answered (LaneRefused refusal)) ≡ spelled (bytes_of "no" ∷ field (number_of refusal) ∷ []))
   pub refused : (refusal : Refusal) → line_of (Refused refusal) ≡ spelled (bytes_of "no" ∷ field (number_of refusal) ∷ [])
+  pub bad_tree_numbered : number_of BadTree ≡ 27
   pub bad_tree : line_of (Refused BadTree) ≡ spelled (bytes_of "no" ∷ field 27 ∷ [])
   pub no_command : line_of (Refused NoCommand) ≡ spelled (bytes_of "no" ∷ field 11 ∷ [])
