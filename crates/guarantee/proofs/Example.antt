@@ -2,7 +2,6 @@
 use mathlib.Core.Path.{◌≡◌, refl}
 use mathlib.Core.Bool.{true, ◌&&◌}
 use mathlib.Core.List.{List, [], ◌∷◌, map}
-use mathlib.Core.Option.{none, some}
 use Prim.Native.Nat.{ℕ, zero, suc, ◌+◌, ◌-◌}
 use native.Mathlib.Nat.{le_trans}
 use native.Mathlib.Omega.{arith}
@@ -10,13 +9,12 @@ use borrow.Author.Tests.{leb-true, ltb-true, le-leb, lt-ltb}
 use lib.Dec.{leb, ltb, eqb}
 use lib.ListN.{replicate}
 use Rattle.units.specs.Refusals.{first_of}
-use Rattle.units.specs.declared.Refusal.TheVariants.{PlacesFull}
 use Rattle.places.proofs.Count.{bit_le, count_le, count_map}
 use Rattle.places.proofs.Tests.{and_told}
 use Rattle.places.specs.Places.{count, first_free}
 use Rattle.places.specs.Choice.{comes_before, better, least}
 use Rattle.places.specs.Members.{Each}
-use Rattle.places.specs.Marks.{Mark, opens, closes, in_force}
+use Rattle.places.specs.Marks.{opens, in_force}
 use Rattle.link.specs.declared.Declaration.{Declaration}
 use Rattle.link.specs.declared.Verdict.TheVariants.{Admitted}
 use Rattle.link.specs.Demand.{demand_of, fails_from}
@@ -28,31 +26,15 @@ use Rattle.packets.specs.Quotes.{quote_of}
 use Rattle.packets.specs.Calls.{open_of as open_in, put_of}
 use Rattle.fair.specs.Calls.{open_of as open_fair_of, offer_of as offer_packet_of}
 use Rattle.station.specs.Calls.{call_of}
-use Rattle.station.specs.declared.Call.TheVariants.{OfferCell}
-use Rattle.station.specs.Answers.{refusal_in}
-use Rattle.promises.specs.Run.{run, run_from, reply_to}
+use Rattle.promises.specs.Run.{run, run_from}
 use Rattle.promises.proofs.Promises.{promises}
 use Rattle.guarantee.specs.Arrivals.{Arrival, arrives_in, KeepsDeclaration, AllKeep, NoOthers}
 use Rattle.guarantee.specs.Heaviest.{burst_and, heaviest_from}
-use Rattle.guarantee.specs.Conditions.{arrivals, AsDeclared, FullDeadlines, with_one}
-use Rattle.guarantee.specs.Example.{declaration, cell, gone, two_flows, calls, offered, Met, Sixteenth, TooMuch}
+use Rattle.guarantee.specs.Conditions.{AsDeclared, FullDeadlines, with_one}
+use Rattle.guarantee.specs.Example.{declaration, cell, two_flows, calls, offered, Met, Sixteenth, TooMuch}
+use Rattle.guarantee.proofs.Computed.{brought, marks, history, answers}
 use Rattle.guarantee.proofs.Heaviest.{burst_keeps}
 use Rattle.guarantee.proofs.Turns.{is_lost, none_lost}
-
--- the cells that the example's calls bring
-abbrev brought : List Arrival
-brought = cell 1 5 ∷ cell 0 5 ∷ cell 1 3 ∷ cell 1 1 ∷ cell 0 1 ∷ cell 0 1 ∷ []
-
--- the openings and closings that they are answered ok for
-abbrev marks : List Mark
-marks = opens 1 2 ∷ closes 1 ∷ opens 5 9 ∷ opens 1 2 ∷ opens 0 3 ∷ []
-
-history :
-    (arrivals calls ≡ brought)
-    × ((run calls).cells.sent ≡ gone 0 2 6 ∷ gone 1 2 5 ∷ gone 1 1 4 ∷ gone 0 1 3 ∷ gone 0 0 2 ∷ gone 1 0 1 ∷ [])
-    × ((run calls).cells.marks ≡ marks)
-unfolding run_from call_of open_of close_of offer_of turn_of open_fair_of open_in offer_packet_of put_of quote_of finish_of first_of count first_free comes_before better least in_force
-history = (refl, refl, refl)
 
 full : FullDeadlines calls
 unfolding run_from call_of open_of close_of offer_of turn_of open_fair_of open_in offer_packet_of put_of quote_of finish_of first_of count first_free comes_before better least in_force
@@ -115,10 +97,6 @@ met =
 held : ((run (offered 15)).cells.marks ≡ opens 0 16 ∷ []) × (with_one (offered 15) 0 ≡ replicate 16 (cell 0 0))
 unfolding run_from call_of open_of offer_of first_of count first_free in_force
 held = (refl, refl)
-
-answers : (refusal_in (reply_to (offered 15) (OfferCell 0 16)) ≡ none) × (refusal_in (reply_to (offered 16) (OfferCell 0 16)) ≡ some PlacesFull)
-unfolding run_from call_of open_of offer_of first_of count first_free in_force
-answers = (refl, refl)
 
 pub sixteenth : Sixteenth
 unfolding burst_and

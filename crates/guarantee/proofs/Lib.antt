@@ -8,6 +8,7 @@ pub mod Places
 pub mod Heaviest
 pub mod Beyond
 pub mod Turns
+pub mod Computed
 pub mod Example
 pub mod Needed
 pub mod Guarantee
