@@ -42,7 +42,8 @@ impl Logbook {
         let mut i: usize = 0;
         while i < input.len() {
             let b = input[i];
-            if b == b'\n' {
+            let ends = b == b'\n';
+            if ends {
                 recorder = hear(recorder, kept, count, events);
                 count = 0;
             } else {

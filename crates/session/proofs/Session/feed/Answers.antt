@@ -33,8 +33,8 @@ loop-i-preserved c =
               | in-OfferPacket v ↦ answered s v.in-OfferPacket.is v.urgent-is v.fair-is v.answered-is (ap (by_fair s) v.offer-fair.ensures)
               | in-OpenTurn v ↦ answered s v.in-OpenTurn.is v.urgent-is v.fair-is v.answered-is (ap (by_urgent s) v.turn-urgent.ensures)
               | in-LostTurn v ↦ answered s v.in-LostTurn.is v.urgent-is v.fair-is v.answered-is (ap (by_urgent s) v.turn-urgent-in-LostTurn.ensures)
-              | in-Begin v ↦ answered s v.in-Begin.is v.urgent-is v.fair-is v.answered-is (ap (by_fair s) v.begin-fair.ensures)
-              | in-End v ↦ answered s v.in-End.is v.urgent-is v.fair-is v.answered-is (ap (by_fair s) v.end-fair.ensures)
+              | in-Begin v ↦ answered s v.in-Begin.is v.urgent-is v.fair-is v.answered-is (ap (by_fair s) (search rules))
+              | in-End v ↦ answered s v.in-End.is v.urgent-is v.fair-is v.answered-is (ap (by_fair s) (search rules))
             ]
             in
             arrived w.out-is w.urgent-is w.fair-is w.kept-is w.count-is w.w-is (on _ (step_call now b w.if-b-eq10.true w.read.ensures w.in-Command.is call) _ _ w.reply-w.ensures)
