@@ -1,6 +1,5 @@
 -- A begin at the largest tag, worked by hand in states that are written out, since no session comes so far.
-use Rattle.std.specs.Prelude.{◌≡◌, [], ◌∷◌, ℕ, ◌-◌}
-use Rattle.std.proofs.Math.Option.{none, some}
+use Rattle.std.specs.Prelude.{◌≡◌, [], ◌∷◌, ℕ, ◌-◌, None, Some}
 use Rattle.units.specs.declared.Tag.{Tag}
 use Rattle.units.specs.Refusals.{first_of}
 use Rattle.units.specs.declared.Refusal.TheVariants.{TagsUsedUp}
@@ -67,9 +66,9 @@ pub record Limit : Type 0 where
       ≡ no 6 ∷ taken 0 ∷ begun 1 0 1 4611686018425946465 ∷ ended 1 0 1 ∷ no 6 ∷ []
   -- By the rules alone, of a length that no packet has: flow 0, of weight 16, is far from the largest tag in class 1; class 1 comes within
   -- 720,720 of it in the root, or passes it.
-  pub noted_within : first_of (grounds_noted fans_plan (accepted 0 0 6398720749288 ∷ opened 0 16 ∷ []) Begin) ≡ none
-  pub noted_past : first_of (grounds_noted fans_plan (accepted 0 0 6398720749289 ∷ opened 0 16 ∷ []) Begin) ≡ some TagsUsedUp
+  pub noted_within : first_of (grounds_noted fans_plan (accepted 0 0 6398720749288 ∷ opened 0 16 ∷ []) Begin) ≡ None
+  pub noted_past : first_of (grounds_noted fans_plan (accepted 0 0 6398720749289 ∷ opened 0 16 ∷ []) Begin) ≡ Some TagsUsedUp
   -- so does the middle of three classes, of weight 1 between two of weight 16
   pub noted_middle :
       first_of (grounds_noted (plan_of (0 ∷ 0 ∷ 1 ∷ 2 ∷ []) (1 ∷ 16 ∷ 1 ∷ 16 ∷ []) (3 ∷ [])) (accepted 0 0 6398720749289 ∷ opened 0 16 ∷ []) Begin)
-      ≡ some TagsUsedUp
+      ≡ Some TagsUsedUp

@@ -1,6 +1,7 @@
 -- A line is read as a command exactly where it is the command's one text: every command has a shape of its own.
+use Rattle.std.proofs.lemmas.Option.{none-some}
 use mathlib.Core.Path.{◌≡◌, refl}
-use mathlib.Core.Option.{some, none-ne-some}
+use Rattle.std.proofs.Common.{Some}
 use Prim.Native.Nat.{ℕ}
 use Rattle.shapes.specs.declared.Shape.{Shape}
 use Rattle.shapes.specs.declared.Shape.TheVariants.{Word, One, Two, Other}
@@ -34,30 +35,30 @@ tells (Ask Begin) = (refl, refl, refl)
 tells (Ask End) = (refl, refl, refl)
 
 -- a shape that tells a command is the command's
-word_told : (letter : ℕ) (c : Command) → word_of letter ≡ some c → Word letter ≡ shaped c
+word_told : (letter : ℕ) (c : Command) → word_of letter ≡ Some c → Word letter ≡ shaped c
 word_told letter c e =
     chosen shaped Word letter big_s SetUp _ c e refl
     (λ e. chosen shaped Word letter small_b (Ask Begin) _ c e refl
-    (λ e. chosen shaped Word letter small_e (Ask End) _ c e refl (λ e. absurd (none-ne-some c e))))
+    (λ e. chosen shaped Word letter small_e (Ask End) _ c e refl (λ e. absurd (none-some c e))))
 
-one_told : (letter a : ℕ) (c : Command) → one_of letter a ≡ some c → One letter a ≡ shaped c
+one_told : (letter a : ℕ) (c : Command) → one_of letter a ≡ Some c → One letter a ≡ shaped c
 one_told letter a c e =
     let at-letter : ℕ → Shape = λ l. One l a in
-    chosen shaped at-letter letter small_c (Ask (Close a)) _ c e refl (λ e. absurd (none-ne-some c e))
+    chosen shaped at-letter letter small_c (Ask (Close a)) _ c e refl (λ e. absurd (none-some c e))
 
-two_told : (letter a b : ℕ) (c : Command) → two_of letter a b ≡ some c → Two letter a b ≡ shaped c
+two_told : (letter a b : ℕ) (c : Command) → two_of letter a b ≡ Some c → Two letter a b ≡ shaped c
 two_told letter a b c e =
     let at-letter : ℕ → Shape = λ l. Two l a b in
     chosen shaped at-letter letter big_k (Class a b) _ c e refl
     (λ e. chosen shaped at-letter letter big_g (Hang a b) _ c e refl
     (λ e. chosen shaped at-letter letter big_f (Ask (Open a b)) _ c e refl
-    (λ e. chosen shaped at-letter letter small_f (Ask (Offer a b)) _ c e refl (λ e. absurd (none-ne-some c e)))))
+    (λ e. chosen shaped at-letter letter small_f (Ask (Offer a b)) _ c e refl (λ e. absurd (none-some c e)))))
 
-told : (s : Shape) (c : Command) → command_in s ≡ some c → s ≡ shaped c
+told : (s : Shape) (c : Command) → command_in s ≡ Some c → s ≡ shaped c
 told (Word letter) c e = word_told letter c e
 told (One letter a) c e = one_told letter a c e
 told (Two letter a b) c e = two_told letter a b c e
-told Other c e = absurd (none-ne-some c e)
+told Other c e = absurd (none-some c e)
 
 pub reads_one_text : ReadsOneText
 reads_one_text = reads shaped command_in text_of Small tells told

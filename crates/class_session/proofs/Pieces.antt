@@ -1,7 +1,7 @@
 -- A session fed in any pieces is the whole session. It keeps the line that is not at its end yet, and takes each byte and the end of the
 -- input as text's law of such states asks.
 use mathlib.Core.Path.{refl}
-use mathlib.Core.Option.{Option}
+use Rattle.std.proofs.Common.{Option}
 use native.Mathlib.Omega.{arith}
 use borrow.Author.Tests.{ne_eqb}
 use Rattle.text.specs.Feeding.{Step}

@@ -1,7 +1,7 @@
 -- What a line was parsed as, each way that a byte can go, and the end, as steps.
 use mathlib.Core.Path.{◌≡◌, refl, ap}
 use mathlib.Core.List.{List, []}
-use mathlib.Core.Option.{Option, none, some}
+use Rattle.std.proofs.Common.{Option, None, Some}
 use Prim.Native.Nat.{ℕ, ◌+◌, ◌≤◌, ◌<◌}
 use native.Mathlib.Omega.{arith}
 use borrow.Author.Tests.{eq-eqb, ne_eqb, lt-ltb, le-ltb}
@@ -19,13 +19,13 @@ use Rattle.class_session.specs.declared.Session.{Session}
 use Rattle.class_session.specs.Steps.{answered_by, step_of, finish_of}
 
 -- what was parsed, read back
-pub asked : (o : Option desk.Command) (r : Parsed) (c : desk.Command) → r ≡ parsed_of o → r ≡ Command c → o ≡ some c
-asked none r c p q = let z : ◌≡◌ {A = ℕ} 0 1 = cc in absurd (omega arith)
-asked (some d) r c p q = let e : d ≡ c = cc in ap some e
+pub asked : (o : Option desk.Command) (r : Parsed) (c : desk.Command) → r ≡ parsed_of o → r ≡ Command c → o ≡ Some c
+asked None r c p q = let z : ◌≡◌ {A = ℕ} 0 1 = cc in absurd (omega arith)
+asked (Some d) r c p q = let e : d ≡ c = cc in ap Some e
 
-pub not_asked : (o : Option desk.Command) (r : Parsed) → r ≡ parsed_of o → r ≡ NoCommand → o ≡ none
-not_asked none r p q = refl
-not_asked (some d) r p q = let z : ◌≡◌ {A = ℕ} 0 1 = cc in absurd (omega arith)
+pub not_asked : (o : Option desk.Command) (r : Parsed) → r ≡ parsed_of o → r ≡ NoCommand → o ≡ None
+not_asked None r p q = refl
+not_asked (Some d) r p q = let z : ◌≡◌ {A = ℕ} 0 1 = cc in absurd (omega arith)
 
 -- a desk and the line kept
 abbrev pub made : Desk → List ℕ → ℕ → Session

@@ -1,6 +1,5 @@
 -- The session's state, byte by byte: the desk, and the line that is not at its end yet.
-use Rattle.std.specs.Prelude.{cond, List, [], ℕ, ◌+◌, eqb, ltb, set, replicate}
-use Rattle.std.proofs.Math.Option.{Option}
+use Rattle.std.specs.Prelude.{cond, List, [], ℕ, ◌+◌, eqb, ltb, set, replicate, Option}
 use Rattle.text.specs.Lines.{line_feed}
 use Rattle.text.specs.Feeding.{Step}
 use Rattle.text.specs.Keeping.{kept_by}

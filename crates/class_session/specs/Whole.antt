@@ -1,6 +1,5 @@
 -- A whole session of the class program, bytes to bytes.
-use Rattle.std.specs.Prelude.{List, [], ◌∷◌, ◌++◌, ℕ}
-use Rattle.std.proofs.Math.Option.{Option, none, some}
+use Rattle.std.specs.Prelude.{List, [], ◌∷◌, ◌++◌, ℕ, Option, None, Some}
 use Rattle.units.specs.declared.Refusal.TheVariants.{NoCommand}
 use Rattle.text.specs.Input.{lines_of}
 use Rattle.text.specs.Keeping.{heard_by}
@@ -17,8 +16,8 @@ heard_as line = heard_by read_command line
 
 -- a line that is no command is refused as such, and the desk is as it was
 abbrev pub answer_of : Desk → Option Command → Heard
-answer_of d none = refused d NoCommand
-answer_of d (some command) = hear_of d command
+answer_of d None = refused d NoCommand
+answer_of d (Some command) = hear_of d command
 
 -- one line after the other, the desk going on from each to the next
 unfoldable pub answers_of : Desk → List (List ℕ) → List ℕ

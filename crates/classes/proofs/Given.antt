@@ -3,7 +3,7 @@
 use mathlib.Core.Path.{◌≡◌, refl, sym, ap, ◌∙◌}
 use mathlib.Core.Bool.{Bool, true, false}
 use mathlib.Core.List.{[], ◌∷◌}
-use mathlib.Core.Option.{Option, none}
+use Rattle.std.proofs.Common.{Option, None}
 use Prim.Native.Nat.{ℕ}
 use Rattle.units.specs.Refusals.{first_of, unless}
 use Rattle.units.specs.declared.Refusal.{Refusal}
@@ -56,25 +56,25 @@ unfolding refusal_of
 refused_by u gives r = (λ s e. ap (λ (a : QueueAnswer). refused u (refusal_of a)) (sym e), λ k. absurd (k r refl))
 
 -- and what it does not goes through
-given_by : (u : Classes) (gives : Done) (a : QueueAnswer) → refusal_in a ≡ none → ByAnswer u a gives gives
+given_by : (u : Classes) (gives : Done) (a : QueueAnswer) → refusal_in a ≡ None → ByAnswer u a gives gives
 given_by u gives a p = (λ r e. absurd (none_is_none r (sym p ∙ ap refusal_in e)), λ k. refl)
 
 -- a call of the lane and one of its flows or of its queue that are refused for the same
 module _ (u : Classes) (o : Option Refusal) (gives : Done) where
-  by_flows : (d : Flows) → refusal_in d.answer ≡ none → (given : Flows → Done) → given d ≡ gives
+  by_flows : (d : Flows) → refusal_in d.answer ≡ None → (given : Flows → Done) → given d ≡ gives
       → ByAnswer u (unless (refused_flows u.queue) o d).answer (given (unless (refused_flows u.queue) o d)) (unless (refused u) o gives)
   by_flows d p given e =
       both_cases (refused_flows u.queue) (refused u) (λ (x : Flows) (y : Done). ByAnswer u x.answer (given x) y)
       (λ r. refused_by u (given (refused_flows u.queue r)) r) o d gives (rw e (given_by u gives d.answer p))
 
-  by_queue : (d : Kept) → refusal_in d.answer ≡ none → (given : Kept → Done) → given d ≡ gives
+  by_queue : (d : Kept) → refusal_in d.answer ≡ None → (given : Kept → Done) → given d ≡ gives
       → ByAnswer u (unless (refused_in u.queue) o d).answer (given (unless (refused_in u.queue) o d)) (unless (refused u) o gives)
   by_queue d p given e =
       both_cases (refused_in u.queue) (refused u) (λ (x : Kept) (y : Done). ByAnswer u x.answer (given x) y)
       (λ r. refused_by u (given (refused_in u.queue r)) r) o d gives (rw e (given_by u gives d.answer p))
 
 -- a queue that refuses a call is as it was
-kept_same : (q : Queue) (o : Option Refusal) (d : Kept) → refusal_in d.answer ≡ none → (r : Refusal) → (unless (refused_in q) o d).answer ≡ RefusedIn r
+kept_same : (q : Queue) (o : Option Refusal) (d : Kept) → refusal_in d.answer ≡ None → (r : Refusal) → (unless (refused_in q) o d).answer ≡ RefusedIn r
     → (unless (refused_in q) o d).queue ≡ q
 kept_same q o d p r e =
     unless_same (refused_in q) (λ (x : Kept). refusal_in x.answer) (λ (x : Kept). x.queue) q (λ s. refl) o d

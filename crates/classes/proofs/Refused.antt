@@ -3,7 +3,7 @@
 use mathlib.Core.Path.{◌≡◌, refl, sym, ◌∙◌}
 use mathlib.Core.Bool.{Bool, true, false, cond}
 use mathlib.Core.Logic.{inl, inr}
-use mathlib.Core.Option.{Option, none, some}
+use Rattle.std.proofs.Common.{Option, None, Some}
 use Rattle.units.specs.Refusals.{first_of, unless}
 use Rattle.units.specs.declared.Refusal.{Refusal}
 use Rattle.units.specs.declared.Refusal.TheVariants.{TagsUsedUp, PacketInService, NothingWaits}
@@ -40,28 +40,28 @@ module _ (u : Classes) where
   call_is End = refl
 
   -- what holds of every refusal, and of what goes through, holds of a call
-  call_cases : (call : Call) (P : Done → Type 0) → ((r : Refusal) → P (refused u r)) → (first_of (grounds_of u call) ≡ none → P (through u call))
+  call_cases : (call : Call) (P : Done → Type 0) → ((r : Refusal) → P (refused u r)) → (first_of (grounds_of u call) ≡ None → P (through u call))
       → P (call_of u call)
   call_cases call P no_way ok = rw (call_is call) (go (first_of (grounds_of u call)) refl)
     where
       go : (o : Option Refusal) → first_of (grounds_of u call) ≡ o → P (unless (refused u) o (through u call))
-      go none e = ok e
-      go (some r) e = no_way r
+      go None e = ok e
+      go (Some r) e = no_way r
 
   -- a begin that no ground refuses has a packet to take
-  begun_through : first_of (grounds_of u Begin) ≡ none → refusal_in (begun u (chosen u)).answer ≡ none
+  begun_through : first_of (grounds_of u Begin) ≡ None → refusal_in (begun u (chosen u)).answer ≡ None
   unfolding first_of
   begun_through = go (chosen u) u.queue.service.busy
     where
       go : (x : Choice Packet) (b : Bool)
-          → cond b (some PacketInService) (cond (is_none x) (some NothingWaits) (cond (beyond u x) (some TagsUsedUp) none)) ≡ none
-          → refusal_in (begun u x).answer ≡ none
+          → cond b (Some PacketInService) (cond (is_none x) (Some NothingWaits) (cond (beyond u x) (Some TagsUsedUp) None)) ≡ None
+          → refusal_in (begun u x).answer ≡ None
       go nothing true q = absurd (none_is_none PacketInService (sym q))
       go nothing false q = absurd (none_is_none NothingWaits (sym q))
       go (at place p) b q = refl
 
   -- what goes through is no refusal
-  through_first : (call : Call) → first_of (grounds_of u call) ≡ none → refusal_in (through u call).answer ≡ none
+  through_first : (call : Call) → first_of (grounds_of u call) ≡ None → refusal_in (through u call).answer ≡ None
   through_first (Open flow weight) e = refl
   through_first (Close flow) e = refl
   through_first (Offer flow length) e = refl
@@ -95,7 +95,7 @@ answered_in_kind u call = call_cases u call (λ d. InKind call d.answer) (refusa
 -- a refused call leaves the lane as it was
 pub refused_same : RefusedSame
 refused_same u call r =
-    call_cases u call (λ d. refusal_in d.answer ≡ some r → d.lane ≡ u) (λ x q. refl)
+    call_cases u call (λ d. refusal_in d.answer ≡ Some r → d.lane ≡ u) (λ x q. refl)
     (λ e q. absurd (none_is_none r (sym (through_first u call e) ∙ q)))
 
 -- each call is refused exactly for the first of its grounds that holds
@@ -103,8 +103,8 @@ pub refused_first : RefusedFirst
 refused_first u call = rw (call_is u call) (go (first_of (grounds_of u call)) refl)
   where
     go : (o : Option Refusal) → first_of (grounds_of u call) ≡ o → refusal_in (unless (refused u) o (through u call)).answer ≡ o
-    go none e = through_first u call e
-    go (some r) e = refl
+    go None e = through_first u call e
+    go (Some r) e = refl
 
 -- the grounds stand in the rules' order
 pub grounds_in_order : GroundsInOrder

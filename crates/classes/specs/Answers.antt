@@ -1,6 +1,5 @@
 -- The number and the values that the rules give for each answer of the class lane, and the refusal in it.
-use Rattle.std.specs.Prelude.{[], ◌∷◌}
-use Rattle.std.proofs.Math.Option.{Option, none, some}
+use Rattle.std.specs.Prelude.{[], ◌∷◌, Option, None, Some}
 use Rattle.units.specs.declared.Refusal.{Refusal}
 use Rattle.units.specs.Answers.{Told, refusal, values}
 use Rattle.classes.specs.declared.Answer.{Answer}
@@ -17,9 +16,9 @@ told (Ended flow number length) = values (flow ∷ number ∷ length ∷ [])
 
 -- the refusal, where it is one
 abbrev pub refusal_in : Answer → Option Refusal
-refusal_in (Refused r) = some r
-refusal_in Opened = none
-refusal_in Closed = none
-refusal_in (Taken number) = none
-refusal_in (Begun flow number length start) = none
-refusal_in (Ended flow number length) = none
+refusal_in (Refused r) = Some r
+refusal_in Opened = None
+refusal_in Closed = None
+refusal_in (Taken number) = None
+refusal_in (Begun flow number length start) = None
+refusal_in (Ended flow number length) = None

@@ -1,6 +1,5 @@
 -- What holds of every call of the class lane in every state.
-use Rattle.std.specs.Prelude.{◌≡◌, ◌⊎◌, List, [], ◌∷◌, map, ℕ}
-use Rattle.std.proofs.Math.Option.{some}
+use Rattle.std.specs.Prelude.{◌≡◌, ◌⊎◌, List, [], ◌∷◌, map, ℕ, Some}
 use Rattle.units.specs.Refusals.{Ground, number_of, first_of}
 use Rattle.units.specs.declared.Refusal.{Refusal}
 use Rattle.units.specs.declared.Tag.{Tag}
@@ -30,7 +29,7 @@ AnsweredInKind = (u : Classes) (call : Call) → InKind call (call_of u call).an
 
 -- T3: a refused call leaves the lane as it was.
 abbrev pub RefusedSame : Type 0
-RefusedSame = (u : Classes) (call : Call) (r : Refusal) → refusal_in (call_of u call).answer ≡ some r → (call_of u call).lane ≡ u
+RefusedSame = (u : Classes) (call : Call) (r : Refusal) → refusal_in (call_of u call).answer ≡ Some r → (call_of u call).lane ≡ u
 
 -- T3: each call is refused exactly for the first of its grounds that holds.
 abbrev pub RefusedFirst : Type 0

@@ -1,6 +1,6 @@
 -- A call is refused exactly for the first of its grounds that holds, and then leaves the lane as it was: both as the queue has it.
 use mathlib.Core.Path.{◌≡◌, refl, ◌∙◌}
-use mathlib.Core.Option.{Option, some}
+use Rattle.std.proofs.Common.{Option, Some}
 use Rattle.units.specs.declared.Refusal.{Refusal}
 use Rattle.units.specs.declared.Tag.{Tag}
 use Rattle.units.proofs.Refusals.{passed_first, passed_same}
@@ -44,10 +44,10 @@ module _ (u : Fair) where
         ending = first (time_left u) (largest_ended u) (end_in u.queue) ∙ q.ending;
       }
 
-  flows_same : (d : Flows) (r : Refusal) → refusal_in (by_flows u d).answer ≡ some r → (by_flows u d).lane ≡ u
+  flows_same : (d : Flows) (r : Refusal) → refusal_in (by_flows u d).answer ≡ Some r → (by_flows u d).lane ≡ u
   flows_same d = passed_same (refused u) refusal_of (λ r. refl) (λ (d : Done). d.lane) u (λ r. refl) (refusal_in d.answer) (with_flows u d) refl
 
-  same : (time largest : Tag) (d : Kept) (r : Refusal) → refusal_in (by_queue u time largest d).answer ≡ some r → (by_queue u time largest d).lane ≡ u
+  same : (time largest : Tag) (d : Kept) (r : Refusal) → refusal_in (by_queue u time largest d).answer ≡ Some r → (by_queue u time largest d).lane ≡ u
   same time largest d =
       passed_same (refused u) refusal_of (λ r. refl) (λ (d : Done). d.lane) u (λ r. refl) (refusal_in d.answer) (with_queue time largest d) refl
 

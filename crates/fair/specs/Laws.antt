@@ -1,6 +1,5 @@
 -- What holds of the lane's definitions in every state.
-use Rattle.std.specs.Prelude.{◌≡◌, ℕ}
-use Rattle.std.proofs.Math.Option.{some}
+use Rattle.std.specs.Prelude.{◌≡◌, ℕ, Some}
 use Rattle.units.specs.Refusals.{first_of}
 use Rattle.units.specs.declared.Refusal.{Refusal}
 use Rattle.units.specs.declared.Tag.{Tag}
@@ -28,11 +27,11 @@ pub record RefusedFirst (u : Fair) : Type 0 where
 
 -- A refused call leaves the lane as it was.
 pub record RefusedSame (u : Fair) (r : Refusal) : Type 0 where
-  pub opening : (flow weight : ℕ) → refusal_in (open_of u flow weight).answer ≡ some r → (open_of u flow weight).lane ≡ u
-  pub closing : (flow : ℕ) → refusal_in (close_of u flow).answer ≡ some r → (close_of u flow).lane ≡ u
-  pub offering : (flow length : ℕ) → refusal_in (offer_of u flow length).answer ≡ some r → (offer_of u flow length).lane ≡ u
-  pub beginning : refusal_in (begin_of u).answer ≡ some r → (begin_of u).lane ≡ u
-  pub ending : refusal_in (end_of u).answer ≡ some r → (end_of u).lane ≡ u
+  pub opening : (flow weight : ℕ) → refusal_in (open_of u flow weight).answer ≡ Some r → (open_of u flow weight).lane ≡ u
+  pub closing : (flow : ℕ) → refusal_in (close_of u flow).answer ≡ Some r → (close_of u flow).lane ≡ u
+  pub offering : (flow length : ℕ) → refusal_in (offer_of u flow length).answer ≡ Some r → (offer_of u flow length).lane ≡ u
+  pub beginning : refusal_in (begin_of u).answer ≡ Some r → (begin_of u).lane ≡ u
+  pub ending : refusal_in (end_of u).answer ≡ Some r → (end_of u).lane ≡ u
 
 -- A begin that is not refused is of the packet that goes first by start tag, and virtual time is that start tag then.
 pub record BeginsFirst (u : Fair) (flow number bytes : ℕ) (start : Tag) : Type 0 where

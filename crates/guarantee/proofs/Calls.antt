@@ -4,13 +4,13 @@ use mathlib.Core.Path.{◌≡◌, refl, sym, ap, ◌∙◌}
 use mathlib.Core.Logic.{inr, ◌≢◌}
 use mathlib.Core.Bool.{Bool, true, false, true≢false}
 use mathlib.Core.List.{List, [], ◌∷◌, ◌++◌, append_assoc, append-nil}
-use mathlib.Core.Option.{none}
+use Rattle.std.proofs.Common.{None}
 use Prim.Native.Nat.{ℕ, suc, ◌+◌, ◌≤◌}
 use native.Mathlib.Nat.{le_refl, le_trans}
 use native.Mathlib.Omega.{arith}
 use borrow.Author.Tests.{not-false}
 use Rattle.units.proofs.Refusals.{none_holds}
-use Rattle.places.specs.Members.{Each, Some}
+use Rattle.places.specs.Members.{Each, Any}
 use Rattle.places.specs.Marks.{Mark, opens, closes, open_in}
 use Rattle.places.proofs.Members.{each_map, each_first, each_last, some_gives, some_both}
 use Rattle.places.proofs.Marks.{force_told}
@@ -50,7 +50,7 @@ turned_to h usable sent missed =
 data Step (h : Cells) (call : Call) (reply : Reply) : Cells → Type 0 where
   nothing : Step h call reply h
   mark : (m : Mark) → Step h call reply (marked h m)
-  cell : (a : Cell) → call ≡ OfferCell a.flow a.deadline → refusal_in reply ≡ none → InForce h a → Step h call reply (with_cell h a)
+  cell : (a : Cell) → call ≡ OfferCell a.flow a.deadline → refusal_in reply ≡ None → InForce h a → Step h call reply (with_cell h a)
   turn : (usable : Bool) (sent : List Gone) (missed : ℕ) → (usable ≡ false → call ≡ LostTurn) → Step h call reply (turned_to h usable sent missed)
 
 module _ (h : Cells) where
@@ -144,10 +144,10 @@ missed_more xs =
 
 -- ---- the deadline of an accepted cell's flow is that of an opening of it
 abbrev pub OfOpening : List Mark → Cell → Type 0
-OfOpening marks a = Some (λ (m : Mark). m ≡ opens a.flow a.full) marks
+OfOpening marks a = Any (λ (m : Mark). m ≡ opens a.flow a.full) marks
 
 -- a cell is offered with success to an open flow only
-open_then : (xs : List Call) (flow deadline : ℕ) → refusal_in (reply_to xs (OfferCell flow deadline)) ≡ none → open_in (run xs).cells.marks flow ≡ true
+open_then : (xs : List Call) (flow deadline : ℕ) → refusal_in (reply_to xs (OfferCell flow deadline)) ≡ None → open_in (run xs).cells.marks flow ≡ true
 open_then xs flow deadline r =
     not-false (open_in (run xs).cells.marks flow)
     (none_holds (grounds_noted (run xs) (OfferCell flow deadline)) (sym (promises.S4 xs (OfferCell flow deadline)) ∙ r)).1.0

@@ -1,7 +1,7 @@
 -- What the examples' calls and their replies come to, computed.
 use mathlib.Core.Path.{◌≡◌, refl}
 use mathlib.Core.List.{List, [], ◌∷◌}
-use mathlib.Core.Option.{none, some}
+use Rattle.std.proofs.Common.{None, Some}
 use Rattle.units.specs.Refusals.{first_of}
 use Rattle.units.specs.declared.Refusal.TheVariants.{PlacesFull}
 use Rattle.places.specs.Places.{count, first_free}
@@ -37,6 +37,6 @@ unfolding run_from call_of open_of close_of offer_of turn_of open_fair_of open_i
 history = (refl, refl, refl)
 
 -- fifteen cells wait, and the next is taken; then sixteen, and the next is refused
-pub answers : (refusal_in (reply_to (offered 15) (OfferCell 0 16)) ≡ none) × (refusal_in (reply_to (offered 16) (OfferCell 0 16)) ≡ some PlacesFull)
+pub answers : (refusal_in (reply_to (offered 15) (OfferCell 0 16)) ≡ None) × (refusal_in (reply_to (offered 16) (OfferCell 0 16)) ≡ Some PlacesFull)
 unfolding run_from call_of open_of offer_of first_of count first_free in_force
 answers = (refl, refl)

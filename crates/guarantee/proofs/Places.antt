@@ -4,7 +4,7 @@ use mathlib.Core.Path.{◌≡◌, sym, ap, ◌∙◌}
 use mathlib.Core.Logic.{◌≢◌}
 use mathlib.Core.Bool.{Bool, true, ◌&&◌}
 use mathlib.Core.List.{List, ◌∷◌, map}
-use mathlib.Core.Option.{some}
+use Rattle.std.proofs.Common.{Some}
 use Prim.Native.Nat.{ℕ, suc, ◌+◌, ◌-◌, ◌≤◌, ◌<◌}
 use native.Mathlib.Omega.{arith}
 use borrow.Author.Tests.{eqb-true, eq-eqb, le-leb, lt-leb, lt-ltb}
@@ -85,7 +85,7 @@ other r n q = n (ap number_of q)
 
 pub G1-places : (d : Declaration) (flow deadline : ℕ) (calls : List Call) → Within d → Each (OpenedWith flow d.deadline) (run calls).cells.marks
     → KeepsDeclaration d flow (with_one calls flow) → HaveRoom d
-    → refusal_in (reply_to calls (OfferCell flow deadline)) ≢ some PlacesFull
+    → refusal_in (reply_to calls (OfferCell flow deadline)) ≢ Some PlacesFull
 G1-places d flow deadline calls good opened keeps room e =
     let free = lt-leb 16 (waiting_in (run calls).cells flow) (fewer_wait d flow calls opened good.2.0 keeps room) in
     let unheld : Unheld PlacesFull (grounds_noted (run calls) (OfferCell flow deadline)) = (

@@ -1,6 +1,5 @@
 -- The guarantee is not empty: calls that meet its conditions, and lists that are not admitted.
-use Rattle.std.specs.Prelude.{◌≡◌, List, [], ◌∷◌, map, ℕ, ◌*◌, replicate}
-use Rattle.std.proofs.Math.Option.{none, some}
+use Rattle.std.specs.Prelude.{◌≡◌, List, [], ◌∷◌, map, ℕ, ◌*◌, replicate, None, Some}
 use Rattle.units.specs.declared.Refusal.TheVariants.{PlacesFull}
 use Rattle.places.specs.Members.{Each}
 use Rattle.link.specs.Rate.{greatest_of}
@@ -89,8 +88,8 @@ pub record Sixteenth : Type 0 where
   pub room : HaveRoom (declaration 16 5040 16)
   pub opened : Each (OpenedWith 0 16) (run (offered 15)).cells.marks
   pub keeps : KeepsDeclaration (declaration 16 5040 16) 0 (with_one (offered 15) 0)
-  pub taken : refusal_in (reply_to (offered 15) (OfferCell 0 16)) ≡ none
-  pub no_more : refusal_in (reply_to (offered 16) (OfferCell 0 16)) ≡ some PlacesFull
+  pub taken : refusal_in (reply_to (offered 15) (OfferCell 0 16)) ≡ None
+  pub no_more : refusal_in (reply_to (offered 16) (OfferCell 0 16)) ≡ Some PlacesFull
 
 -- case K fails at 1: two cells arrive in slot 0, and both have to go in slot 0; and the client's list is too fast
 pub record TooMuch : Type 0 where

@@ -1,7 +1,6 @@
 -- What a client is sold: flows that keep an admitted list, with their full deadlines on all cells, lose none, and for a list that fails or is too fast
 -- there are cells within it that nobody could send in time.
-use Rattle.std.specs.Prelude.{◌≡◌, ◌≢◌, ◌↔◌, List, ◌++◌, map, ℕ, ◌*◌, ◌<◌, length}
-use Rattle.std.proofs.Math.Option.{some}
+use Rattle.std.specs.Prelude.{◌≡◌, ◌≢◌, ◌↔◌, List, ◌++◌, map, ℕ, ◌*◌, ◌<◌, length, Some}
 use Rattle.units.specs.declared.Refusal.TheVariants.{PlacesFull}
 use Rattle.places.specs.Members.{Each}
 use Rattle.link.specs.Rate.{greatest_of}
@@ -47,7 +46,7 @@ pub record Guarantee : Type 0 where
   pub G1-places :
       (d : Declaration) (flow deadline : ℕ) (calls : List Call) → Within d → Each (OpenedWith flow d.deadline) (run calls).cells.marks
       → KeepsDeclaration d flow (with_one calls flow) → HaveRoom d
-      → refusal_in (reply_to calls (OfferCell flow deadline)) ≢ some PlacesFull
+      → refusal_in (reply_to calls (OfferCell flow deadline)) ≢ Some PlacesFull
   -- as the sixteenth of sixteen is not
   pub G1-sixteenth : Sixteenth
   -- G2: of a list that fails at t the heaviest cells by t are within the declarations, and nobody could send them all

@@ -1,8 +1,9 @@
 -- A line is read as a call exactly where it is the call's one text: every call has a shape of its own.
+use Rattle.std.proofs.lemmas.Option.{none-some}
 use mathlib.Core.Path.{◌≡◌, refl, subst}
 use mathlib.Core.Bool.{Bool, true, false, cond}
 use mathlib.Core.List.{List, [], ◌∷◌}
-use mathlib.Core.Option.{Option, none, some, none-ne-some}
+use Rattle.std.proofs.Common.{Option, None, Some}
 use Prim.Native.Nat.{ℕ}
 use lib.Dec.{eqb}
 use Rattle.text.specs.Reading.{blank, Taken, read_number}
@@ -43,45 +44,45 @@ tells Begin = (refl, refl, refl)
 tells End = (refl, refl, refl)
 
 -- a shape that tells a call is the call's
-word_told : (letter : ℕ) (c : Call) → word_of letter ≡ some c → Word letter ≡ shaped c
+word_told : (letter : ℕ) (c : Call) → word_of letter ≡ Some c → Word letter ≡ shaped c
 word_told letter c e =
     chosen shaped Word letter small_t OpenTurn _ c e refl
     (λ e. chosen shaped Word letter small_x LostTurn _ c e refl
     (λ e. chosen shaped Word letter small_b Begin _ c e refl
-    (λ e. chosen shaped Word letter small_e End _ c e refl (λ e. absurd (none-ne-some c e)))))
+    (λ e. chosen shaped Word letter small_e End _ c e refl (λ e. absurd (none-some c e)))))
 
-one_told : (letter a : ℕ) (c : Call) → one_of letter a ≡ some c → One letter a ≡ shaped c
+one_told : (letter a : ℕ) (c : Call) → one_of letter a ≡ Some c → One letter a ≡ shaped c
 one_told letter a c e =
     let at-letter : ℕ → Shape = λ l. One l a in
     chosen shaped at-letter letter big_c (CloseUrgent a) _ c e refl
-    (λ e. chosen shaped at-letter letter small_c (CloseFair a) _ c e refl (λ e. absurd (none-ne-some c e)))
+    (λ e. chosen shaped at-letter letter small_c (CloseFair a) _ c e refl (λ e. absurd (none-some c e)))
 
-two_told : (letter a b : ℕ) (c : Call) → two_of letter a b ≡ some c → Two letter a b ≡ shaped c
+two_told : (letter a b : ℕ) (c : Call) → two_of letter a b ≡ Some c → Two letter a b ≡ shaped c
 two_told letter a b c e =
     let at-letter : ℕ → Shape = λ l. Two l a b in
     chosen shaped at-letter letter big_u (OpenUrgent a b) _ c e refl
     (λ e. chosen shaped at-letter letter big_f (OpenFair a b) _ c e refl
     (λ e. chosen shaped at-letter letter small_u (OfferCell a b) _ c e refl
-    (λ e. chosen shaped at-letter letter small_f (OfferPacket a b) _ c e refl (λ e. absurd (none-ne-some c e)))))
+    (λ e. chosen shaped at-letter letter small_f (OfferPacket a b) _ c e refl (λ e. absurd (none-some c e)))))
 
-told : (s : Shape) (c : Call) → call_in s ≡ some c → s ≡ shaped c
+told : (s : Shape) (c : Call) → call_in s ≡ Some c → s ≡ shaped c
 told (Word letter) c e = word_told letter c e
 told (One letter a) c e = one_told letter a c e
 told (Two letter a b) c e = two_told letter a b c e
-told Other c e = absurd (none-ne-some c e)
+told Other c e = absurd (none-some c e)
 
 -- a line is read as the call of its shape
 second_read : (letter a : ℕ) (t : Option Taken) → call_in (shape_second letter a t) ≡ read_second letter a t
-second_read letter a none = refl
-second_read letter a (some (b, [])) = refl
-second_read letter a (some (b, x ∷ rest)) = refl
+second_read letter a None = refl
+second_read letter a (Some (b, [])) = refl
+second_read letter a (Some (b, x ∷ rest)) = refl
 
 first_read : (letter : ℕ) (t : Option Taken) → call_in (shape_first letter t) ≡ read_first letter t
-first_read letter none = refl
-first_read letter (some (a, [])) = refl
-first_read letter (some (a, x ∷ rest)) = second_read letter a (read_number rest)
+first_read letter None = refl
+first_read letter (Some (a, [])) = refl
+first_read letter (Some (a, x ∷ rest)) = second_read letter a (read_number rest)
 
-blank_read : (b : Bool) (s : Shape) (o : Option Call) → call_in s ≡ o → call_in (cond b s Other) ≡ cond b o none
+blank_read : (b : Bool) (s : Shape) (o : Option Call) → call_in s ≡ o → call_in (cond b s Other) ≡ cond b o None
 blank_read true s o e = e
 blank_read false s o e = refl
 
@@ -93,9 +94,9 @@ read_by_shape (letter ∷ x ∷ rest) = blank_read (eqb x blank) (shape_first le
 -- what ReadsOneText says of a line, of what it is read as
 abbrev Right : List ℕ → Option Call → Type 0
 Right line o =
-    ((c : Call) → o ≡ some c → (line ≡ text_of c) × Small c)
-    × ((c : Call) → line ≡ text_of c → Small c → o ≡ some c)
-    × (((c : Call) → line ≡ text_of c → Small c → ⊥) → o ≡ none)
+    ((c : Call) → o ≡ Some c → (line ≡ text_of c) × Small c)
+    × ((c : Call) → line ≡ text_of c → Small c → o ≡ Some c)
+    × (((c : Call) → line ≡ text_of c → Small c → ⊥) → o ≡ None)
 
 pub reads_one_text : ReadsOneText
 reads_one_text line = subst (Right line) (read_by_shape line) (reads shaped call_in text_of Small tells told line)

@@ -1,7 +1,7 @@
 -- The verdict by the numbers: where the first bad declaration stands and why it is the first, and what a list without one is.
 use mathlib.Core.Path.{◌≡◌, refl, ◌∙◌, ap}
 use mathlib.Core.List.{List, [], ◌∷◌}
-use mathlib.Core.Option.{Option, none, some}
+use Rattle.std.proofs.Common.{Option, None, Some}
 use Prim.Native.Nat.{ℕ, zero, suc, ◌+◌, ◌<◌}
 use native.Mathlib.Nat.{le_of_suc-le-suc, not-suc-le-zero}
 use native.Mathlib.Omega.{arith}
@@ -38,14 +38,14 @@ pub data Found (j : ℕ) (ds : List Declaration) : Verdict → Type 0 where
       → place ≡ j + k
       → k < length ds
       → GoodTo ds k
-      → Reason (get_or ds k no_declaration) (some refusal)
+      → Reason (get_or ds k no_declaration) (Some refusal)
       → Found j ds (RefusedAt refusal place)
 
 found_cons : (j : ℕ) (d : Declaration) (ds : List Declaration) (o : Option Refusal) → Reason d o → (v : Verdict) → Found (suc j) ds v → Found j (d ∷ ds) (or_else (refused_at j o) v)
-found_cons j d ds none (good w) _ (nothing ws) = nothing (good_cons d ds (length ds) w ws)
-found_cons j d ds none (good w) _ (one refusal k place e l ws x) =
+found_cons j d ds None (good w) _ (nothing ws) = nothing (good_cons d ds (length ds) w ws)
+found_cons j d ds None (good w) _ (one refusal k place e l ws x) =
     one refusal (suc k) place (omega arith) (omega arith) (good_cons d ds k w ws) x
-found_cons j d ds (some refusal) x v later = one refusal 0 j (omega arith) (omega arith) (λ i l. absurd (not-suc-le-zero l)) x
+found_cons j d ds (Some refusal) x v later = one refusal 0 j (omega arith) (omega arith) (λ i l. absurd (not-suc-le-zero l)) x
 
 pub found : (j : ℕ) (ds : List Declaration) → Found j ds (by_numbers j ds)
 unfolding by_numbers
@@ -66,7 +66,7 @@ no_fault j [] ws = refl
 no_fault j (d ∷ ds) ws = rw (good_taken d (ws 0 (omega arith))) (no_fault (suc j) ds (good_rest d ds ws))
 
 pub fault_at : (j : ℕ) (ds : List Declaration) (k : ℕ) (refusal : Refusal) → k < length ds → GoodTo ds k
-    → first_of (declaration_grounds (get_or ds k no_declaration)) ≡ some refusal → by_numbers j ds ≡ RefusedAt refusal (j + k)
+    → first_of (declaration_grounds (get_or ds k no_declaration)) ≡ Some refusal → by_numbers j ds ≡ RefusedAt refusal (j + k)
 unfolding by_numbers
 fault_at j [] k refusal l ws e = absurd (not-suc-le-zero l)
 fault_at j (d ∷ ds) zero refusal l ws e = rw e (ap (RefusedAt refusal) (omega arith))

@@ -2,7 +2,7 @@
 use mathlib.Core.Path.{◌≡◌, refl, ◌∙◌, ap}
 use mathlib.Core.Logic.{◌⊎◌, inl, inr}
 use mathlib.Core.List.{List, [], ◌∷◌, Memᴰ}
-use mathlib.Core.Option.{some}
+use Rattle.std.proofs.Common.{Some}
 use Prim.Native.Nat.{ℕ, ◌+◌, ◌*◌, ◌≤◌, ◌<◌}
 use native.Mathlib.Nat.{zero-add, not-suc-le-zero}
 use native.Mathlib.Decide.{dec_lt}
@@ -60,7 +60,7 @@ soon_of (failing t f s l m) = m
 then_long : (ds : List Declaration) → 16 < length ds → admit_of ds ≡ Refused ListTooLong
 then_long ds l = rw (lt-ltb 16 (length ds) l) (judged_long ds)
 
-then_bad : {Bad : Declaration → Type 0} (refusal : Refusal) → ((d : Declaration) → Bad d → first_of (declaration_grounds d) ≡ some refusal)
+then_bad : {Bad : Declaration → Type 0} (refusal : Refusal) → ((d : Declaration) → Bad d → first_of (declaration_grounds d) ≡ Some refusal)
     → (ds : List Declaration) (k : ℕ) → FirstBad Bad ds k → admit_of ds ≡ RefusedAt refusal k
 then_bad refusal refused ds k w =
     rw (le-ltb 16 (length ds) w.few)

@@ -2,7 +2,7 @@
 use mathlib.Core.Path.{◌≡◌, refl}
 use mathlib.Core.Bool.{Bool, true, false}
 use mathlib.Core.List.{List}
-use mathlib.Core.Option.{some}
+use Rattle.std.proofs.Common.{Some}
 use Prim.Native.Nat.{ℕ, ◌+◌, ◌≤◌, ◌<◌}
 use native.Mathlib.Decide.{dec_lt, dec_le}
 use native.Mathlib.Omega.{arith}
@@ -58,7 +58,7 @@ why_found ds few _ q (nothing ws) = why_rated ds (record { few = few; within = w
 why_found ds few _ q (one refusal k place e l ws x) =
     let p : place ≡ k = omega arith in rw (judged_bad ds refusal place q, p) (go refusal x)
   where
-    go : (r : Refusal) → Reason (get_or ds k no_declaration) (some r) → Why ds (RefusedAt r k)
+    go : (r : Refusal) → Reason (get_or ds k no_declaration) (Some r) → Why ds (RefusedAt r k)
     go BadBurst (burst b) = bad17 k (record { few = few; place = l; bad = b; before = ws })
     go BadPeriod (period b) = bad18 k (record { few = few; place = l; bad = b; before = ws })
     go BadDeadline (deadline b) = bad14 k (record { few = few; place = l; bad = b; before = ws })

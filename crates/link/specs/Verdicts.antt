@@ -1,6 +1,5 @@
 -- The verdict on a list: its length is judged first, then the numbers of each declaration, then its rate, then its demand.
-use Rattle.std.specs.Prelude.{Bool, true, false, cond, List, [], ◌∷◌, ℕ, suc, ◌+◌, ltb}
-use Rattle.std.proofs.Math.Option.{Option, none, some}
+use Rattle.std.specs.Prelude.{Bool, true, false, cond, List, [], ◌∷◌, ℕ, suc, ◌+◌, ltb, Option, None, Some}
 use Rattle.units.specs.Limits.{bad_deadline}
 use Rattle.units.specs.Refusals.{Ground, first_of}
 use Rattle.units.specs.declared.Refusal.{Refusal}
@@ -34,8 +33,8 @@ declaration_grounds d = (BadBurst, bad_burst d.burst) ∷ (BadPeriod, bad_period
 
 -- by what the declaration in place k is refused for, if anything
 abbrev pub refused_at : ℕ → Option Refusal → Verdict
-refused_at k none = Admitted
-refused_at k (some refusal) = RefusedAt refusal k
+refused_at k None = Admitted
+refused_at k (Some refusal) = RefusedAt refusal k
 
 -- by the numbers of the declaration in place k alone
 abbrev pub by_declaration : ℕ → Declaration → Verdict

@@ -1,7 +1,7 @@
 -- What a line of lists is answered, by what it is read as.
 use mathlib.Core.Path.{◌≡◌, refl, sym, ◌∙◌, ap}
 use mathlib.Core.List.{List, [], ◌∷◌, ◌++◌, append_assoc}
-use mathlib.Core.Option.{Option, none, some}
+use Rattle.std.proofs.Common.{Option, None, Some}
 use Prim.Native.Nat.{ℕ}
 use Rattle.link.specs.declared.Declaration.{Declaration}
 use Rattle.text.specs.Decimal.{decimal_of}
@@ -23,8 +23,8 @@ pub lines_answered : LinesAnswered
 unfolding bytes_of
 lines_answered =
     record {
-      lists = λ ds lines small. answered (list_text ds) lines (some ds) ((reads_one_list (list_text ds)).1 ds refl small);
-      others = λ line lines other. answered line lines none ((reads_one_list line).2 other);
+      lists = λ ds lines small. answered (list_text ds) lines (Some ds) ((reads_one_list (list_text ds)).1 ds refl small);
+      others = λ line lines other. answered line lines None ((reads_one_list line).2 other);
     }
 
 more : (d e : Declaration) (ds : List Declaration) → list_text (d ∷ e ∷ ds) ≡ list_text (d ∷ []) ++ (bytes_of " " ++ list_text (e ∷ ds))

@@ -2,7 +2,7 @@
 use mathlib.Core.Path.{◌≡◌, refl, sym, ◌∙◌, ap}
 use mathlib.Core.Bool.{Bool, true, false, ◌&&◌}
 use mathlib.Core.List.{List, [], ◌∷◌, ◌++◌, append_assoc, append-nil}
-use mathlib.Core.Option.{some}
+use Rattle.std.proofs.Common.{Some}
 use Prim.Native.Nat.{ℕ, zero, suc, ◌+◌, ◌-◌, ◌*◌, ◌/◌, ◌%◌, ◌≤◌, ◌<◌}
 use native.Mathlib.Decide.{dec_lt}
 use native.Mathlib.Omega.{arith}
@@ -82,7 +82,7 @@ three_read whole any value burst period b p d rest lb lp ld =
     ∙ decimal_read whole true p 2 b p d rest ld
 
 list_read : (d : Declaration) (ds whole : List Declaration) (any : Bool) (value burst period : ℕ) → Small (d ∷ ds)
-    → heard_as (line_from (line_of whole any false value 0 burst period) (list_text (d ∷ ds))) ≡ some (whole ++ d ∷ ds)
+    → heard_as (line_from (line_of whole any false value 0 burst period) (list_text (d ∷ ds))) ≡ Some (whole ++ d ∷ ds)
 unfolding line_from takes_of numbers_in numbers_text AllSmall
 list_read d [] whole any value burst period s =
     ap heard_as (ap (λ (end : List ℕ). line_from (line_of whole any false value 0 burst period) (decimal_of d.burst ++ blank ∷ (decimal_of d.period ++ blank ∷ end))) (sym (append-nil (decimal_of d.deadline)))
@@ -90,9 +90,9 @@ list_read d [] whole any value burst period s =
 list_read d (e ∷ ds) whole any value burst period s =
     ap heard_as (three_read whole any value burst period d.burst d.period d.deadline (blank ∷ list_text (e ∷ ds)) s.0 s.1.0 s.1.1.0)
     ∙ list_read e ds (whole ++ d ∷ []) true d.deadline d.burst d.period s.1.1.1
-    ∙ ap some (append_assoc whole (d ∷ []) (e ∷ ds))
+    ∙ ap Some (append_assoc whole (d ∷ []) (e ∷ ds))
 
-pub reads_text : (ds : List Declaration) → Small ds → read_list (list_text ds) ≡ some ds
+pub reads_text : (ds : List Declaration) → Small ds → read_list (list_text ds) ≡ Some ds
 unfolding line_from numbers_in numbers_text
 reads_text [] s = refl
 reads_text (d ∷ ds) s = list_read d ds [] false 0 0 0 s

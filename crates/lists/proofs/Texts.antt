@@ -1,9 +1,10 @@
 -- A line is read as a list exactly where it is the list's one text. While a line is no list's spoilt text, what was read of it is the
 -- text of the numbers given so far, each with its blank, and of the number at hand.
+use Rattle.std.proofs.lemmas.Option.{same_Some, none-some}
 use mathlib.Core.Path.{◌≡◌, refl, sym, ◌∙◌, ap, subst}
 use mathlib.Core.Bool.{Bool, true, false, cond, ◌&&◌, false≢true}
 use mathlib.Core.List.{List, [], ◌∷◌, ◌++◌, append_assoc, append-nil}
-use mathlib.Core.Option.{Option, none, some, some-injective, none-ne-some}
+use Rattle.std.proofs.Common.{Option, None, Some}
 use Prim.Native.Nat.{ℕ, zero, suc, ◌+◌, ◌-◌, ◌≤◌}
 use native.Mathlib.Omega.{arith}
 use borrow.Author.Tests.{eqb-true}
@@ -180,29 +181,29 @@ whole_two whole value burst period text h =
     (w.0 ∙ sym (text_last done value) ∙ ap numbers_text (sym n), subst AllSmall (sym n) (small_snoc done value h.small w.1))
 
 whole_is_text : (whole : List Declaration) (value given burst period : ℕ) (text : List ℕ) (ds : List Declaration) → Holds (line_of whole true true value given burst period) text
-    → heard_as (line_of whole true true value given burst period) ≡ some ds → IsText text ds
+    → heard_as (line_of whole true true value given burst period) ≡ Some ds → IsText text ds
 whole_is_text whole value given burst period text ds h e = go (eqb given 2) refl e
   where
-    go : (t : Bool) → eqb given 2 ≡ t → cond t (some (whole ++ declaration burst period value ∷ [])) none ≡ some ds → IsText text ds
+    go : (t : Bool) → eqb given 2 ≡ t → cond t (Some (whole ++ declaration burst period value ∷ [])) None ≡ Some ds → IsText text ds
     go true p e =
-        subst (IsText text) (some-injective (whole ++ declaration burst period value ∷ []) ds e)
+        subst (IsText text) (same_Some (whole ++ declaration burst period value ∷ []) ds e)
         (whole_two whole value burst period text (subst (λ (g : ℕ). Holds (line_of whole true true value g burst period) text) (eqb-true given 2 p) h))
-    go false p e = absurd (none-ne-some ds e)
+    go false p e = absurd (none-some ds e)
 
 heard_is_text : (whole : List Declaration) (any bad begun : Bool) (value given burst period : ℕ) (text : List ℕ) (ds : List Declaration)
     → Read (record { whole = whole; hand = record { some = any; bad = bad; begun = begun; value = value; given = given; burst = burst; period = period } }) text
-    → heard_as (record { whole = whole; hand = record { some = any; bad = bad; begun = begun; value = value; given = given; burst = burst; period = period } }) ≡ some ds → IsText text ds
+    → heard_as (record { whole = whole; hand = record { some = any; bad = bad; begun = begun; value = value; given = given; burst = burst; period = period } }) ≡ Some ds → IsText text ds
 unfolding numbers_in numbers_text AllSmall
-heard_is_text whole true true true value given burst period text ds r e = absurd (none-ne-some ds e)
-heard_is_text whole true true false value given burst period text ds r e = absurd (none-ne-some ds e)
+heard_is_text whole true true true value given burst period text ds r e = absurd (none-some ds e)
+heard_is_text whole true true false value given burst period text ds r e = absurd (none-some ds e)
 heard_is_text whole true false true value given burst period text ds r e = whole_is_text whole value given burst period text ds (r.good refl) e
-heard_is_text whole true false false value given burst period text ds r e = absurd (none-ne-some ds e)
+heard_is_text whole true false false value given burst period text ds r e = absurd (none-some ds e)
 heard_is_text whole false true begun value given burst period text ds r e = absurd (false≢true (r.counts refl))
 heard_is_text whole false false begun value given burst period text ds r e =
     let h = (r.good refl).empty refl in
-    subst (IsText text) (sym h.1 ∙ some-injective whole ds e) (h.0, tt)
+    subst (IsText text) (sym h.1 ∙ same_Some whole ds e) (h.0, tt)
 
-from_is_text : (rest : List ℕ) (line : Line) (text : List ℕ) (ds : List Declaration) → Read line text → heard_as (line_from line rest) ≡ some ds → IsText (text ++ rest) ds
+from_is_text : (rest : List ℕ) (line : Line) (text : List ℕ) (ds : List Declaration) → Read line text → heard_as (line_from line rest) ≡ Some ds → IsText (text ++ rest) ds
 unfolding line_from
 from_is_text [] line text ds r e =
     let h = line.hand in
@@ -224,16 +225,16 @@ fresh_read =
       counts = λ y. absurd (false≢true y);
     }
 
-is_text : (line : List ℕ) (ds : List Declaration) → read_list line ≡ some ds → IsText line ds
+is_text : (line : List ℕ) (ds : List Declaration) → read_list line ≡ Some ds → IsText line ds
 is_text line ds e = from_is_text line fresh_line [] ds fresh_read e
 
 -- and any other line as none
-other : (line : List ℕ) → ((ds : List Declaration) → line ≡ list_text ds → Small ds → ⊥) → read_list line ≡ none
+other : (line : List ℕ) → ((ds : List Declaration) → line ≡ list_text ds → Small ds → ⊥) → read_list line ≡ None
 other line f = go (read_list line) refl
   where
-    go : (o : Option (List Declaration)) → read_list line ≡ o → read_list line ≡ none
-    go none e = e
-    go (some ds) e = let w = is_text line ds e in absurd (f ds w.0 w.1)
+    go : (o : Option (List Declaration)) → read_list line ≡ o → read_list line ≡ None
+    go None e = e
+    go (Some ds) e = let w = is_text line ds e in absurd (f ds w.0 w.1)
 
 pub reads_one_list : ReadsOneList
 reads_one_list line = (is_text line, λ ds e s. ap read_list e ∙ reads_text ds s, other line)

@@ -1,7 +1,6 @@
 -- What a line is read as, byte by byte, and the law by which a reader may go instead: a line is read as a list exactly where it is the
 -- list's one text.
-use Rattle.std.specs.Prelude.{Bool, true, false, cond, ◌&&◌, not, List, [], ◌∷◌, ◌++◌, ◌≡◌, ℕ, ◌-◌, eqb}
-use Rattle.std.proofs.Math.Option.{Option, none, some}
+use Rattle.std.specs.Prelude.{Bool, true, false, cond, ◌&&◌, not, List, [], ◌∷◌, ◌++◌, ◌≡◌, ℕ, ◌-◌, eqb, Option, None, Some}
 use Rattle.link.specs.declared.Declaration.{Declaration}
 use Rattle.text.specs.Reading.{blank, is_digit, grown, goes_on}
 use Rattle.lists.specs.declared.taking.Hand.{Hand}
@@ -68,7 +67,7 @@ line_from line (b ∷ bs) = line_from (line_step line b) bs
 -- the list that a line is, at its end: an empty line is the empty list, and any other ends with a deadline
 abbrev pub heard_as : Line → Option (List Declaration)
 heard_as line =
-    cond line.hand.some (cond (whole_at line.hand) (some (line.whole ++ declared line.hand ∷ [])) none) (some line.whole)
+    cond line.hand.some (cond (whole_at line.hand) (Some (line.whole ++ declared line.hand ∷ [])) None) (Some line.whole)
 
 -- what a line is read as
 abbrev pub read_list : List ℕ → Option (List Declaration)
@@ -78,6 +77,6 @@ read_list line = heard_as (line_from fresh_line line)
 abbrev pub ReadsOneList : Type 0
 ReadsOneList =
     (line : List ℕ)
-    → ((ds : List Declaration) → read_list line ≡ some ds → (line ≡ list_text ds) × Small ds)
-    × ((ds : List Declaration) → line ≡ list_text ds → Small ds → read_list line ≡ some ds)
-    × (((ds : List Declaration) → line ≡ list_text ds → Small ds → ⊥) → read_list line ≡ none)
+    → ((ds : List Declaration) → read_list line ≡ Some ds → (line ≡ list_text ds) × Small ds)
+    × ((ds : List Declaration) → line ≡ list_text ds → Small ds → read_list line ≡ Some ds)
+    × (((ds : List Declaration) → line ≡ list_text ds → Small ds → ⊥) → read_list line ≡ None)

@@ -1,6 +1,5 @@
 -- A whole input of lists, bytes to bytes: what a reader of the output may expect of its input.
-use Rattle.std.specs.Prelude.{List, [], ◌∷◌, ◌++◌, ℕ}
-use Rattle.std.proofs.Math.Option.{Option, none, some}
+use Rattle.std.specs.Prelude.{List, [], ◌∷◌, ◌++◌, ℕ, Option, None, Some}
 use Rattle.units.specs.declared.Refusal.TheVariants.{NoCommand}
 use Rattle.link.specs.declared.Declaration.{Declaration}
 use Rattle.link.specs.declared.Verdict.{Verdict}
@@ -12,8 +11,8 @@ use Rattle.lists.specs.Printing.{verdict_line}
 
 -- the verdict on what a line is read as; a line that is no list is refused as any line that is none
 abbrev pub verdict_of : Option (List Declaration) → Verdict
-verdict_of none = Refused NoCommand
-verdict_of (some ds) = admit_of ds
+verdict_of None = Refused NoCommand
+verdict_of (Some ds) = admit_of ds
 
 -- the line that a line is answered
 abbrev pub answer_of : List ℕ → List ℕ

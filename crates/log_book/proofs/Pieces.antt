@@ -3,7 +3,7 @@
 use mathlib.Core.Path.{◌≡◌, refl, sym, ◌∙◌, ap, subst}
 use mathlib.Core.Bool.{Bool, true, false, cond}
 use mathlib.Core.List.{List, [], ◌∷◌, ◌++◌, append-nil}
-use mathlib.Core.Option.{Option, none, some}
+use Rattle.std.proofs.Common.{Option, None, Some}
 use Prim.Native.Nat.{ℕ, ◌+◌, ◌≤◌, ◌<◌}
 use native.Mathlib.Decide.{dec_lt}
 use native.Mathlib.Numerals.{add-one}
@@ -74,8 +74,8 @@ notes_end s (x ∷ line) room h =
 calls_on : (r : Recorder) (o : Option Call) (calls : List Call) (room : List ℕ)
     → (recorded_from (recorded_from r (calls_by o)) calls ≡ recorded_from r (calls_by o ++ calls)) × (room_from (recorded_from r (calls_by o)) calls (room_from r (calls_by o) room) ≡ room_from r (calls_by o ++ calls) room)
 unfolding recorded_from room_from
-calls_on r none calls room = (refl, refl)
-calls_on r (some call) calls room = (refl, refl)
+calls_on r None calls room = (refl, refl)
+calls_on r (Some call) calls room = (refl, refl)
 
 -- ---- one byte more
 -- the rest of an input is noted as its lines are, the first of them begun

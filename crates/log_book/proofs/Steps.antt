@@ -1,7 +1,7 @@
 -- A line's call noted, each way that a byte can go, and where the logbook stands after some bytes of an input.
 use mathlib.Core.Path.{◌≡◌, refl, sym, ◌∙◌, ap}
 use mathlib.Core.List.{List, [], ◌∷◌}
-use mathlib.Core.Option.{Option, none, some}
+use Rattle.std.proofs.Common.{Option, None, Some}
 use Prim.Native.Nat.{ℕ, ◌+◌, ◌≤◌, ◌<◌}
 use native.Mathlib.Numerals.{add-one}
 use borrow.Author.Tests.{eq-eqb, ne_eqb, lt-ltb, le-ltb}
@@ -21,11 +21,11 @@ use Rattle.log_book.specs.Steps.{step_of, room_step, fed_of, room_fed, finish_of
 abbrev pub Noted : Recorder → Option Call → List ℕ → Recorder → List ℕ → Type 0
 Noted r o room next is = (next ≡ recorded_from r (calls_by o)) × (is ≡ room_from r (calls_by o) room)
 
-pub noted_none : (r : Recorder) (o : Option Call) (room : List ℕ) → o ≡ none → Noted r o room r room
+pub noted_none : (r : Recorder) (o : Option Call) (room : List ℕ) → o ≡ None → Noted r o room r room
 unfolding recorded_from room_from
 noted_none r o room e = rw e (refl, refl)
 
-pub noted_call : (r : Recorder) (o : Option Call) (room : List ℕ) (c : Call) {next : Recorder} {is : List ℕ} → o ≡ some c → next ≡ note_of r c → is ≡ room_noted r c room
+pub noted_call : (r : Recorder) (o : Option Call) (room : List ℕ) (c : Call) {next : Recorder} {is : List ℕ} → o ≡ Some c → next ≡ note_of r c → is ≡ room_noted r c room
     → Noted r o room next is
 unfolding recorded_from room_from
 noted_call r o room c e n i = rw e (n, i)

@@ -1,14 +1,13 @@
 -- The calls of a whole session.
-use Rattle.std.specs.Prelude.{List, [], ◌∷◌, ◌++◌, ℕ}
-use Rattle.std.proofs.Math.Option.{Option, none, some}
+use Rattle.std.specs.Prelude.{List, [], ◌∷◌, ◌++◌, ℕ, Option, None, Some}
 use Rattle.station.specs.declared.Call.{Call}
 use Rattle.text.specs.Input.{lines_of}
 use Rattle.session.specs.Whole.{heard_as}
 
 -- a line that is no command is no call
 abbrev pub calls_by : Option Call → List Call
-calls_by none = []
-calls_by (some call) = call ∷ []
+calls_by None = []
+calls_by (Some call) = call ∷ []
 
 -- the calls that the station hears in some lines
 unfoldable pub heard_in : List (List ℕ) → List Call

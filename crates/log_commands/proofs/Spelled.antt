@@ -2,7 +2,7 @@
 use mathlib.Core.Path.{◌≡◌, refl, ◌∙◌, ap}
 use mathlib.Core.Bool.{Bool, true, false, cond, and-false, false≢true}
 use mathlib.Core.List.{List, [], ◌∷◌, ◌++◌, append-nil}
-use mathlib.Core.Option.{Option, none, some}
+use Rattle.std.proofs.Common.{Option, None, Some}
 use Prim.Native.Nat.{ℕ, ◌≤◌}
 use native.Mathlib.Omega.{arith}
 use borrow.Author.Tests.{eqb-true}
@@ -32,12 +32,12 @@ word_is line word e =
     let l : length line ≡ length word = eqb-true (length line) (length word) t.0 in
     begun line word t.1 ∙ rw (drop_of_length-le line {i = length word} (omega arith)) (append-nil word)
 
-number_is : (line word : List ℕ) (n : ℕ) → starts_with line word ≡ true → read_number (drop (length word) line) ≡ some (n, []) → (n ≤ largest) × (line ≡ word ++ decimal_of n)
+number_is : (line word : List ℕ) (n : ℕ) → starts_with line word ≡ true → read_number (drop (length word) line) ≡ Some (n, []) → (n ≤ largest) × (line ≡ word ++ decimal_of n)
 number_is line word n s e =
     let k = kept (drop (length word) line) (n, []) e in
     (k.1, begun line word s ∙ ap (λ (rest : List ℕ). word ++ rest) (k.0 ∙ append-nil (decimal_of n)))
 
-numbered_only : (line : List ℕ) (n : ℕ) → read_number (drop 5 line) ≡ some (n, []) → Spells line (numbered line n)
+numbered_only : (line : List ℕ) (n : ℕ) → read_number (drop 5 line) ≡ Some (n, []) → Spells line (numbered line n)
 unfolding bytes_of
 numbered_only line n e = go (starts_with line diff_word) refl (starts_with line tail_word) refl
   where
@@ -47,9 +47,9 @@ numbered_only line n e = go (starts_with line diff_word) refl (starts_with line 
     go false p false q = tt
 
 ending_only : (line : List ℕ) (o : Option Taken) → read_number (drop 5 line) ≡ o → Spells line (ending_in line o)
-ending_only line none e = tt
-ending_only line (some (n, [])) e = numbered_only line n e
-ending_only line (some (n, b ∷ rest)) e = tt
+ending_only line None e = tt
+ending_only line (Some (n, [])) e = numbered_only line n e
+ending_only line (Some (n, b ∷ rest)) e = tt
 
 only : (line : List ℕ) → Spells line (command_of line)
 unfolding bytes_of
@@ -64,7 +64,7 @@ only line = go (is_word line check_word) refl (is_word line show_word) refl (is_
 
 -- a line that starts with none of the words alone goes by the number that it ends with
 numbered_read : (line : List ℕ) (n : ℕ) → starts_with line check_word ≡ false → starts_with line show_word ≡ false → starts_with line write_word ≡ false
-    → read_number (drop 5 line) ≡ some (n, []) → command_of line ≡ numbered line n
+    → read_number (drop 5 line) ≡ Some (n, []) → command_of line ≡ numbered line n
 numbered_read line n a b c e = no_word line (other check_word a) (other show_word b) (other write_word c) ∙ rw e
   where
     other : (word : List ℕ) → starts_with line word ≡ false → is_word line word ≡ false

@@ -2,7 +2,7 @@
 use mathlib.Core.Path.{◌≡◌, ◌∙◌}
 use mathlib.Core.Bool.{true, false}
 use mathlib.Core.List.{List}
-use mathlib.Core.Option.{none, some}
+use Rattle.std.proofs.Common.{None, Some}
 use Prim.Native.Nat.{ℕ, ◌≤◌, ◌<◌}
 use lib.ListN.{length, drop, drop_of_length-le}
 use lib.Seq.{drop-cons}
@@ -26,10 +26,10 @@ module _ (line : List ℕ) where
         pub no_word : command_of line ≡ ending_in line (read_number (drop 5 line))
         no_word = rw (a, b, c)
 
-        pub no_number : read_number (drop 5 line) ≡ none → command_of line ≡ Unknown
+        pub no_number : read_number (drop 5 line) ≡ None → command_of line ≡ Unknown
         no_number e = no_word ∙ rw e
 
-        module _ (n p : ℕ) (e : read_number (drop 5 line) ≡ some (n, drop p line)) where
+        module _ (n p : ℕ) (e : read_number (drop 5 line) ≡ Some (n, drop p line)) where
           pub number_last : length line ≤ p → command_of line ≡ numbered line n
           number_last h = no_word ∙ rw (e, drop_of_length-le line {i = p} h)
 

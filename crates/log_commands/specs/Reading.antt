@@ -1,6 +1,5 @@
 -- What a line asks of the log program, byte by byte.
-use Rattle.std.specs.Prelude.{Bool, true, false, cond, ◌&&◌, List, [], ◌∷◌, ℕ, eqb, length, drop}
-use Rattle.std.proofs.Math.Option.{Option, none, some}
+use Rattle.std.specs.Prelude.{Bool, true, false, cond, ◌&&◌, List, [], ◌∷◌, ℕ, eqb, length, drop, Option, None, Some}
 use Rattle.text.specs.Reading.{Taken, read_number}
 use Rattle.log_commands.specs.declared.Command.{Command}
 use Rattle.log_commands.specs.declared.Command.TheVariants.{Check, Show, Write, Diff, Tail, Unknown}
@@ -37,9 +36,9 @@ numbered line n = cond (starts_with line diff_word) (Diff n) (cond (starts_with 
 
 -- a number is the last that the line has
 abbrev pub ending_in : List ℕ → Option Taken → Command
-ending_in line none = Unknown
-ending_in line (some (n, [])) = numbered line n
-ending_in line (some (n, b ∷ rest)) = Unknown
+ending_in line None = Unknown
+ending_in line (Some (n, [])) = numbered line n
+ending_in line (Some (n, b ∷ rest)) = Unknown
 
 -- a line: a word alone, or a word, a blank and a number
 abbrev pub command_of : List ℕ → Command

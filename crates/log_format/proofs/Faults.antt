@@ -3,7 +3,7 @@ use mathlib.Core.Path.{◌≡◌, refl, sym}
 use mathlib.Core.Bool.{Bool, true, false}
 use mathlib.Core.List.{List, [], ◌∷◌, ◌++◌}
 use mathlib.Core.Logic.{◌⊎◌, inl, inr}
-use mathlib.Core.Option.{none, some}
+use Rattle.std.proofs.Common.{None, Some}
 use Prim.Native.Nat.{ℕ, zero, suc, ◌+◌, ◌*◌, ◌/◌, ◌≤◌, ◌<◌}
 use native.Mathlib.Omega.{arith}
 use borrow.Author.Tests.{ltb-true, ltb-false, not-false}
@@ -16,7 +16,7 @@ use Rattle.log_format.specs.Format.{Log, most_deadline, most_weight, most_bytes}
 use Rattle.log_format.specs.Faults.{FaultAt, WrongField, byte_at, four_at, form_at, urgent_length, fair_length, event_length, fair_start, event_start, log_end}
 use Rattle.log_format.specs.Reading.{Reading, Good, Bad, Part, is_first, first_fault, table_parts, body_parts, opening_parts, event_parts, urgent_body, fair_body, event_body, log_at, after_bodies, after_table, read_of}
 use Rattle.log_format.specs.Laws.{OneFault}
-use Rattle.log_format.proofs.Parts.{Found, All, Some, Hit, lowest, not_none, found, all_good, append_some, append_none}
+use Rattle.log_format.proofs.Parts.{Found, All, Any, Hit, lowest, not_none, found, all_good, append_some, append_none}
 use Rattle.log_format.proofs.Tests.{right, length_of, events_of}
 use Rattle.log_format.proofs.Places.{parts, parts_after, Told, parts_told, is_hit}
 
@@ -83,9 +83,9 @@ module _ (s : List ℕ) where
     pub fair : All (Whole (length s)) (fair_body s)
     pub events : All (Whole (length s)) (event_body s)
     pub fits : log_end s ≤ length s
-    pub clean : first_fault (length s) (parts s) ≡ none
+    pub clean : first_fault (length s) (parts s) ≡ None
 
-  pub sound : first_fault (length s) (parts s) ≡ none → Sound
+  pub sound : first_fault (length s) (parts s) ≡ None → Sound
   sound e =
       let a = all_good (length s) (parts s) e in
       let t = table_of (all_left (Whole (length s)) (table_parts s) (body_parts s) a) in
@@ -113,25 +113,25 @@ module _ (s : List ℕ) where
   read_once = go (first_fault (length s) (table_parts s)) refl
     where
       go : (r : Found) → first_fault (length s) (table_parts s) ≡ r → after_table s r ≡ after_bodies s (first_fault (length s) (parts s))
-      go (some x) e = rw (append_some (length s) x (table_parts s) (body_parts s) e)
-      go none e = rw (append_none (length s) (table_parts s) (body_parts s) e)
+      go (Some x) e = rw (append_some (length s) x (table_parts s) (body_parts s) e)
+      go None e = rw (append_none (length s) (table_parts s) (body_parts s) e)
 
   pub read_cases : (P : Reading → Type 0)
-      → ((x : Fault × ℕ) → first_fault (length s) (parts s) ≡ some x → P (Bad x.0 x.1))
+      → ((x : Fault × ℕ) → first_fault (length s) (parts s) ≡ Some x → P (Bad x.0 x.1))
       → (Sound → log_end s < length s → P (Bad ByteTooMany (log_end s)))
       → (Sound → log_end s ≡ length s → P (Good (log_at s)))
       → P (read_of s)
   read_cases P found many good = rw read_once (go (first_fault (length s) (parts s)) refl (ltb (log_end s) (length s)) refl)
     where
       go : (r : Found) → first_fault (length s) (parts s) ≡ r → (t : Bool) → ltb (log_end s) (length s) ≡ t → P (after_bodies s r)
-      go (some x) e t f = found x e
-      go none e true f = rw f (many (sound e) (ltb-true (log_end s) (length s) f))
-      go none e false f =
+      go (Some x) e t f = found x e
+      go None e true f = rw f (many (sound e) (ltb-true (log_end s) (length s) f))
+      go None e false f =
           let h = sound e in
           rw f (good h (omega (arith, h.fits, ltb-false (log_end s) (length s) f)))
 
   -- ---- a refusal is a fault
-  told : (x : Fault × ℕ) → first_fault (length s) (parts s) ≡ some x → FaultAt s x.0 x.1
+  told : (x : Fault × ℕ) → first_fault (length s) (parts s) ≡ Some x → FaultAt s x.0 x.1
   told = found (length s) (λ x. FaultAt s x.0 x.1) (parts s) parts_told'
     where
       parts_told' : All (Told s) (parts s)
@@ -186,21 +186,21 @@ module _ (s : List ℕ) where
 
   -- ---- no fault stands before the refusal
   module _ (g : Fault) (other : ℕ) (h : FaultAt s g other) where
-    none_before : (x : Fault × ℕ) → first_fault (length s) (parts s) ≡ some x → x.1 ≤ other
+    none_before : (x : Fault × ℕ) → first_fault (length s) (parts s) ≡ Some x → x.1 ≤ other
     none_before x e = go (is_hit s other g h)
       where
         t : Stands x.0 x.1
         t = stands x.0 x.1 (told x e)
 
-        go : Some (Hit (length s) other) (parts s) ⊎ ((other ≡ length s) × (length s < log_end s)) ⊎ ((other ≡ log_end s) × (log_end s < length s)) → x.1 ≤ other
+        go : Any (Hit (length s) other) (parts s) ⊎ ((other ≡ length s) × (length s < log_end s)) ⊎ ((other ≡ log_end s) × (log_end s < length s)) → x.1 ≤ other
         go (inl i) = lowest (length s) other 0 (parts s) (parts_after s) i x e
         go (inr (inl i)) = omega (arith, early_most x.0 x.1 t, i.0)
         go (inr (inr i)) = omega (arith, many_most x.0 x.1 t, i.0)
 
-    only_end : first_fault (length s) (parts s) ≡ none → log_end s ≤ length s → (other ≡ log_end s) × (log_end s < length s)
+    only_end : first_fault (length s) (parts s) ≡ None → log_end s ≤ length s → (other ≡ log_end s) × (log_end s < length s)
     only_end e l = go (is_hit s other g h)
       where
-        go : Some (Hit (length s) other) (parts s) ⊎ ((other ≡ length s) × (length s < log_end s)) ⊎ ((other ≡ log_end s) × (log_end s < length s)) → (other ≡ log_end s) × (log_end s < length s)
+        go : Any (Hit (length s) other) (parts s) ⊎ ((other ≡ length s) × (length s < log_end s)) ⊎ ((other ≡ log_end s) × (log_end s < length s)) → (other ≡ log_end s) × (log_end s < length s)
         go (inl i) = absurd (not_none (length s) other 0 (parts s) (parts_after s) i e)
         go (inr (inl i)) = absurd (omega (arith, i.1))
         go (inr (inr i)) = i

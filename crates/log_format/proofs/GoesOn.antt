@@ -2,7 +2,7 @@
 use mathlib.Core.Path.{◌≡◌, refl, sym, ◌∙◌, ap}
 use mathlib.Core.Bool.{true, false}
 use mathlib.Core.List.{List, [], ◌∷◌, ◌++◌}
-use mathlib.Core.Option.{none, some}
+use Rattle.std.proofs.Common.{None, Some}
 use Prim.Native.Nat.{ℕ, zero, suc, ◌+◌, ◌/◌, ◌≤◌, ◌<◌}
 use native.Mathlib.Omega.{arith}
 use borrow.Author.Tests.{le-ltb}
@@ -34,32 +34,32 @@ likes_append n (x ∷ xs) [] zs ws a b = absurd a
 likes_append n (x ∷ xs) (y ∷ ys) zs ws a b =
     (a.0, a.1, a.2, λ h. ((a.3 h).0, likes_append n xs ys zs ws (a.3 h).1 b))
 
-like_some : (n m : ℕ) (ps qs : List Part) → n ≤ m → Likes n ps qs → (x : Fault × ℕ) → (x.0 ≡ EndsEarly → ⊥) → first_fault n ps ≡ some x → first_fault m qs ≡ some x
+like_some : (n m : ℕ) (ps qs : List Part) → n ≤ m → Likes n ps qs → (x : Fault × ℕ) → (x.0 ≡ EndsEarly → ⊥) → first_fault n ps ≡ Some x → first_fault m qs ≡ Some x
 unfolding first_fault
 like_some n m [] [] l a x d = λ e. absurd (let z : ◌≡◌ {A = ℕ} 0 1 = cc in omega arith)
 like_some n m [] (q ∷ qs) l a x d = absurd a
 like_some n m (p ∷ ps) [] l a x d = absurd a
 like_some n m (p ∷ ps) (q ∷ qs) l a x d =
-    first_cases n p ps (λ r. r ≡ some x → first_fault m (q ∷ qs) ≡ some x)
+    first_cases n p ps (λ r. r ≡ Some x → first_fault m (q ∷ qs) ≡ Some x)
     (λ h e. absurd (d (let z : x.0 ≡ EndsEarly = cc in z)))
     (λ h b e.
     let i = a.3 h in
     let t : q.bad ≡ true = sym i.0 ∙ b in
     let w : ltb m (q.start + q.size) ≡ false = le-ltb m (q.start + q.size) (omega (arith, a.0, a.1)) in
-    rw (w, t) (let z : ◌≡◌ {A = Found} (some (p.fault, p.start)) (some (q.fault, q.start)) = rw (a.2, a.0) in sym z ∙ e))
+    rw (w, t) (let z : ◌≡◌ {A = Found} (Some (p.fault, p.start)) (Some (q.fault, q.start)) = rw (a.2, a.0) in sym z ∙ e))
     (λ h b e.
     let i = a.3 h in
     let t : q.bad ≡ false = sym i.0 ∙ b in
     let w : ltb m (q.start + q.size) ≡ false = le-ltb m (q.start + q.size) (omega (arith, a.0, a.1)) in
     rw (w, t) (like_some n m ps qs l i.1 x d e))
 
-like_none : (n m : ℕ) (ps qs : List Part) → n ≤ m → Likes n ps qs → first_fault n ps ≡ none → first_fault m qs ≡ none
+like_none : (n m : ℕ) (ps qs : List Part) → n ≤ m → Likes n ps qs → first_fault n ps ≡ None → first_fault m qs ≡ None
 unfolding first_fault
 like_none n m [] [] l a = λ e. refl
 like_none n m [] (q ∷ qs) l a = absurd a
 like_none n m (p ∷ ps) [] l a = absurd a
 like_none n m (p ∷ ps) (q ∷ qs) l a =
-    first_cases n p ps (λ r. r ≡ none → first_fault m (q ∷ qs) ≡ none)
+    first_cases n p ps (λ r. r ≡ None → first_fault m (q ∷ qs) ≡ None)
     (λ h e. absurd (let z : ◌≡◌ {A = ℕ} 0 1 = cc in omega arith))
     (λ h b e. absurd (let z : ◌≡◌ {A = ℕ} 0 1 = cc in omega arith))
     (λ h b e.
@@ -173,14 +173,14 @@ module _ (s t : List ℕ) (n : ℕ) (same : (i : ℕ) → i < n → byte_at s i 
 
 -- ---- the reading by its parts
 module _ (t : List ℕ) where
-  reads_some : (x : Fault × ℕ) → first_fault (length t) (parts t) ≡ some x → read_of t ≡ Bad x.0 x.1
+  reads_some : (x : Fault × ℕ) → first_fault (length t) (parts t) ≡ Some x → read_of t ≡ Bad x.0 x.1
   reads_some x e =
       read_cases t (λ r. r ≡ Bad x.0 x.1)
       (λ y f. let q : y ≡ x = cc in ap (λ (z : Fault × ℕ). Bad z.0 z.1) q)
       (λ h l. let f = h.clean in absurd (let z : ◌≡◌ {A = ℕ} 0 1 = cc in omega arith))
       (λ h l. let f = h.clean in absurd (let z : ◌≡◌ {A = ℕ} 0 1 = cc in omega arith))
 
-  reads_many : first_fault (length t) (parts t) ≡ none → log_end t < length t → read_of t ≡ Bad ByteTooMany (log_end t)
+  reads_many : first_fault (length t) (parts t) ≡ None → log_end t < length t → read_of t ≡ Bad ByteTooMany (log_end t)
   reads_many e k =
       read_cases t (λ r. r ≡ Bad ByteTooMany (log_end t))
       (λ y f. absurd (let z : ◌≡◌ {A = ℕ} 0 1 = cc in omega arith))

@@ -2,7 +2,7 @@
 use mathlib.Core.Path.{◌≡◌, refl, sym, ◌∙◌, ap, ap₂, subst}
 use mathlib.Core.Bool.{Bool, true, false, cond, ◌&&◌, false≢true}
 use mathlib.Core.List.{List, [], ◌∷◌, ◌++◌, append-nil}
-use mathlib.Core.Option.{none, some}
+use Rattle.std.proofs.Common.{None, Some}
 use Prim.Native.Nat.{ℕ, zero, suc, ◌+◌, ◌-◌, ◌*◌, ◌/◌, ◌%◌, ◌≤◌, ◌<◌}
 use native.Mathlib.Omega.{arith}
 use borrow.Author.Tests.{eqb-true, eq-eqb, ne_eqb}
@@ -87,16 +87,16 @@ no_prefix form (x ∷ xs) (y ∷ ys) g h p q =
 
 -- ---- the first difference
 differ_at : (at : ℕ) (xs ys : List ℕ) (k : ℕ) → k < length xs → k < length ys → (get_or xs k 0 ≡ get_or ys k 0 → ⊥)
-    → ((j : ℕ) → j < k → get_or xs j 0 ≡ get_or ys j 0) → differ_from at xs ys ≡ some (at + k)
+    → ((j : ℕ) → j < k → get_or xs j 0 ≡ get_or ys j 0) → differ_from at xs ys ≡ Some (at + k)
 unfolding differ_from
 differ_at at [] ys k l m d s = absurd (omega arith)
 differ_at at (x ∷ xs) [] k l m d s = absurd (omega arith)
-differ_at at (x ∷ xs) (y ∷ ys) zero l m d s = rw (ne_eqb x y d) (let e : at ≡ at + 0 = omega arith in ap some e)
+differ_at at (x ∷ xs) (y ∷ ys) zero l m d s = rw (ne_eqb x y d) (let e : at ≡ at + 0 = omega arith in ap Some e)
 differ_at at (x ∷ xs) (y ∷ ys) (suc k) l m d s =
     let e : at + 1 + k ≡ at + suc k = omega arith in
-    rw (eq-eqb x y (s 0 (omega arith))) (differ_at (at + 1) xs ys k (omega arith) (omega arith) d (λ j h. s (suc j) (omega arith)) ∙ ap some e)
+    rw (eq-eqb x y (s 0 (omega arith))) (differ_at (at + 1) xs ys k (omega arith) (omega arith) d (λ j h. s (suc j) (omega arith)) ∙ ap Some e)
 
-differ_not : (at : ℕ) (xs ys : List ℕ) → ((j : ℕ) → j < length xs → j < length ys → get_or xs j 0 ≡ get_or ys j 0) → differ_from at xs ys ≡ none
+differ_not : (at : ℕ) (xs ys : List ℕ) → ((j : ℕ) → j < length xs → j < length ys → get_or xs j 0 ≡ get_or ys j 0) → differ_from at xs ys ≡ None
 unfolding differ_from
 differ_not at [] ys s = refl
 differ_not at (x ∷ xs) [] s = refl
@@ -147,16 +147,16 @@ module _ (a b : List ℕ) where
     difference_is = rw (same, starts)
 
     at_place : (place : ℕ) → event_start a ≤ place → place < length a → place < length b → (byte_at a place ≡ byte_at b place → ⊥)
-        → ((k : ℕ) → event_start a ≤ k → k < place → byte_at a k ≡ byte_at b k) → difference_of a b ≡ some place
+        → ((k : ℕ) → event_start a ≤ k → k < place → byte_at a k ≡ byte_at b k) → difference_of a b ≡ Some place
     at_place place l m n d s =
         let e : event_start a + (place - event_start a) ≡ place = omega arith in
         difference_is
         ∙ differ_at (event_start a) (drop (event_start a) a) (drop (event_start a) b) (place - event_start a) (omega (arith, length-drop (event_start a) a)) (omega (arith, length-drop (event_start a) b))
         (λ q. d (let p : byte_at a (event_start a + (place - event_start a)) ≡ byte_at b (event_start a + (place - event_start a)) = sym (get_or-drop (event_start a) a (place - event_start a) 0) ∙ q ∙ get_or-drop (event_start a) b (place - event_start a) 0 in rw e at p))
         (λ j h. get_or-drop (event_start a) a j 0 ∙ s (event_start a + j) (omega arith) (omega arith) ∙ sym (get_or-drop (event_start a) b j 0))
-        ∙ ap some e
+        ∙ ap Some e
 
-    nowhere : ((k : ℕ) → event_start a ≤ k → k < length a → k < length b → byte_at a k ≡ byte_at b k) → difference_of a b ≡ none
+    nowhere : ((k : ℕ) → event_start a ≤ k → k < length a → k < length b → byte_at a k ≡ byte_at b k) → difference_of a b ≡ None
     nowhere s =
         difference_is
         ∙ differ_not (event_start a) (drop (event_start a) a) (drop (event_start a) b)
@@ -204,6 +204,6 @@ module _ (a b : List ℕ) where
       none_of ba bb h false e = rw e
 
       no_difference : Bytes a → Bytes b → ((x y : Log) (k : ℕ) → Alike a b x y → event_start a ≤ k → k < length a → k < length b → byte_at a k ≡ byte_at b k)
-          → (t : Bool) → comparable a b ≡ t → difference_of a b ≡ none
+          → (t : Bool) → comparable a b ≡ t → difference_of a b ≡ None
       no_difference ba bb h true e = let r = alike ba bb e in nowhere r.0 r.1 r.2 (λ k. h r.0 r.1 k r.2)
       no_difference ba bb h false e = rw e

@@ -15,7 +15,7 @@ use Rattle.log_format.specs.Format.{most_deadline, most_weight}
 use Rattle.log_format.specs.Faults.{FaultAt, WrongField, WrongOpening, WrongEvent, least_at, byte_at, four_at, form_at, urgent_length, fair_length, event_length, urgent_start, fair_start, event_start, log_end}
 use Rattle.log_format.specs.Reading.{Part, is_first, table_parts, body_parts, opening_parts, event_parts, urgent_body, fair_body, event_body}
 use Rattle.log_format.proofs.Forms.{not_first, no_first}
-use Rattle.log_format.proofs.Parts.{All, Some, After, Hit, all_append, some_left, some_right}
+use Rattle.log_format.proofs.Parts.{All, Any, After, Hit, all_append, some_left, some_right}
 use Rattle.log_format.proofs.Tests.{wrong, is_wrong, wrong_length, is_wrong_length, wrong_events, is_wrong_events}
 
 abbrev pub parts : List ℕ → List Part
@@ -114,14 +114,14 @@ module _ (s : List ℕ) where
 -- ---- a fault of a field or a record is a bad part
 module _ (s : List ℕ) (start size most place : ℕ) where
   openings_hit : (w : WrongOpening s start size most place) (k j at least : ℕ) → at ≡ start + 3 * j → least ≡ least_at s start j → j ≤ w.0 → w.0 < j + k
-      → Some (Hit (length s) place) (opening_parts most least s at k)
+      → Any (Hit (length s) place) (opening_parts most least s at k)
   unfolding opening_parts
   openings_hit w zero j at least e f l m = absurd (omega arith)
   openings_hit w (suc k) j at least e f l m =
       go (ℕ_discrete w.0 j) (λ l. openings_hit w k (suc j) (at + 3) (byte_at s at + 1) (omega arith) (rw e refl) l (omega arith))
     where
-      go : Dec (w.0 ≡ j) → (suc j ≤ w.0 → Some (Hit (length s) place) (opening_parts most (byte_at s at + 1) s (at + 3) k))
-          → Some (Hit (length s) place) (opening_parts most least s at (suc k))
+      go : Dec (w.0 ≡ j) → (suc j ≤ w.0 → Any (Hit (length s) place) (opening_parts most (byte_at s at + 1) s (at + 3) k))
+          → Any (Hit (length s) place) (opening_parts most least s at (suc k))
       go (yes q) again =
           let p : place ≡ at = omega (arith, w.1) in
           inl (sym p, omega (arith, w.3, p), rw (f, ← q, ← p) w.4)
@@ -129,21 +129,21 @@ module _ (s : List ℕ) (start size most place : ℕ) where
 
 module _ (s : List ℕ) (place : ℕ) where
   events_hit : (w : WrongEvent s place) (k j at : ℕ) → at ≡ event_start s + 4 * j → j ≤ w.0 → w.0 < j + k
-      → Some (Hit (length s) place) (event_parts (form_at s) s at k)
+      → Any (Hit (length s) place) (event_parts (form_at s) s at k)
   unfolding event_parts
   events_hit w zero j at e l m = absurd (omega arith)
   events_hit w (suc k) j at e l m =
       go (ℕ_discrete w.0 j) (λ l. events_hit w k (suc j) (at + 4) (omega arith) l (omega arith))
     where
-      go : Dec (w.0 ≡ j) → (suc j ≤ w.0 → Some (Hit (length s) place) (event_parts (form_at s) s (at + 4) k))
-          → Some (Hit (length s) place) (event_parts (form_at s) s at (suc k))
+      go : Dec (w.0 ≡ j) → (suc j ≤ w.0 → Any (Hit (length s) place) (event_parts (form_at s) s (at + 4) k))
+          → Any (Hit (length s) place) (event_parts (form_at s) s at (suc k))
       go (yes q) again =
           let p : place ≡ at = omega (arith, w.1) in
           inl (sym p, omega (arith, w.3, p), rw (← p) w.4)
       go (no q) again = inr (again (omega arith))
 
   abbrev HitHere : Type 0
-  HitHere = Some (Hit (length s) place) (parts s)
+  HitHere = Any (Hit (length s) place) (parts s)
 
   first_hit : FaultAt s FirstByte place → HitHere
   first_hit h = inl (sym h.0, omega (arith, h.1), rw (no_first (byte_at s 0) h.2 h.3))
@@ -163,7 +163,7 @@ module _ (s : List ℕ) (place : ℕ) where
   record_hit : FaultAt s BadRecord place → HitHere
   record_hit h = some_right (Hit (length s) place) (table_parts s) (body_parts s) (go h)
     where
-      go : FaultAt s BadRecord place → Some (Hit (length s) place) (body_parts s)
+      go : FaultAt s BadRecord place → Any (Hit (length s) place) (body_parts s)
       go (inl w) =
           some_left (Hit (length s) place) (urgent_body s) (fair_body s ++ event_body s)
           (openings_hit s urgent_start (urgent_length s) most_deadline place w (urgent_length s / 3) 0 urgent_start 0 refl refl (omega arith) (omega (arith, w.2)))
@@ -177,7 +177,7 @@ module _ (s : List ℕ) (place : ℕ) where
           (events_hit w (event_length s / 4) 0 (event_start s) (omega arith) (omega arith) (omega (arith, w.2))))
 
   pub is_hit : (g : Fault) → FaultAt s g place
-      → Some (Hit (length s) place) (parts s) ⊎ ((place ≡ length s) × (length s < log_end s)) ⊎ ((place ≡ log_end s) × (log_end s < length s))
+      → Any (Hit (length s) place) (parts s) ⊎ ((place ≡ length s) × (length s < log_end s)) ⊎ ((place ≡ log_end s) × (log_end s < length s))
   is_hit FirstByte h = inl (first_hit h)
   is_hit TableField h = inl (field_hit h)
   is_hit BadRecord h = inl (record_hit h)

@@ -1,6 +1,5 @@
 -- What the definitions of the log promise.
-use Rattle.std.specs.Prelude.{◌≡◌, List, [], ◌∷◌, ◌++◌, ℕ, ◌+◌, ◌*◌, ◌≤◌, ◌<◌, length, take, get_or}
-use Rattle.std.proofs.Math.Option.{none, some}
+use Rattle.std.specs.Prelude.{◌≡◌, List, [], ◌∷◌, ◌++◌, ℕ, ◌+◌, ◌*◌, ◌≤◌, ◌<◌, length, take, get_or, None, Some}
 use Rattle.log_format.specs.declared.Fault.{Fault}
 use Rattle.log_format.specs.declared.Fault.TheVariants.{EndsEarly, ByteTooMany}
 use Rattle.log_format.specs.Format.{Opening, Event, Log, GoodLog, Fits, Bytes, bytes_of, size_of, event_bytes}
@@ -75,8 +74,8 @@ pub record Compared (a b : List ℕ) : Type 0 where
       (x y : Log) (place : ℕ) → Alike a b x y → event_start a ≤ place → place < length a → place < length b
       → (byte_at a place ≡ byte_at b place → ⊥)
       → ((k : ℕ) → event_start a ≤ k → k < place → byte_at a k ≡ byte_at b k)
-      → difference_of a b ≡ some place
+      → difference_of a b ≡ Some place
   pub differ_none :
       Bytes a → Bytes b
       → ((x y : Log) (k : ℕ) → Alike a b x y → event_start a ≤ k → k < length a → k < length b → byte_at a k ≡ byte_at b k)
-      → difference_of a b ≡ none
+      → difference_of a b ≡ None

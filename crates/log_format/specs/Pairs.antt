@@ -1,6 +1,5 @@
 -- Two logs: the tail of the longer one, and the first difference of their events.
-use Rattle.std.specs.Prelude.{Bool, true, false, cond, ◌&&◌, List, [], ◌∷◌, ℕ, ◌+◌, eqb, drop}
-use Rattle.std.proofs.Math.Option.{Option, none, some}
+use Rattle.std.specs.Prelude.{Bool, true, false, cond, ◌&&◌, List, [], ◌∷◌, ℕ, ◌+◌, eqb, drop, Option, None, Some}
 use Rattle.log_format.specs.Format.{Opening, Log, first_byte}
 use Rattle.log_format.specs.Faults.{event_start}
 use Rattle.log_format.specs.Reading.{Reading, Good, Bad, read_of}
@@ -32,12 +31,12 @@ rest_of (x ∷ xs) (y ∷ ys) = cond (eqb x y) (rest_of xs ys) []
 
 -- the first place where two bodies differ within the shorter, the first byte of each being at the place at
 unfoldable pub differ_from : ℕ → List ℕ → List ℕ → Option ℕ
-differ_from at [] ys = none
-differ_from at (x ∷ xs) [] = none
-differ_from at (x ∷ xs) (y ∷ ys) = cond (eqb x y) (differ_from (at + 1) xs ys) (some at)
+differ_from at [] ys = None
+differ_from at (x ∷ xs) [] = None
+differ_from at (x ∷ xs) (y ∷ ys) = cond (eqb x y) (differ_from (at + 1) xs ys) (Some at)
 
 abbrev pub tail_of : List ℕ → List ℕ → List ℕ
 tail_of a b = cond (comparable a b) (rest_of (drop (event_start a) a) (drop (event_start b) b)) []
 
 abbrev pub difference_of : List ℕ → List ℕ → Option ℕ
-difference_of a b = cond (comparable a b) (differ_from (event_start a) (drop (event_start a) a) (drop (event_start b) b)) none
+difference_of a b = cond (comparable a b) (differ_from (event_start a) (drop (event_start a) a) (drop (event_start b) b)) None

@@ -1,6 +1,5 @@
 -- What the reader gives for bytes: the log, or the first fault on the way through them.
-use Rattle.std.specs.Prelude.{Bool, true, false, cond, not, ◌||◌, List, [], ◌∷◌, ◌++◌, ℕ, zero, suc, ◌+◌, ◌/◌, ◌%◌, ltb, eqb, length}
-use Rattle.std.proofs.Math.Option.{Option, none, some}
+use Rattle.std.specs.Prelude.{Bool, true, false, cond, not, ◌||◌, List, [], ◌∷◌, ◌++◌, ℕ, zero, suc, ◌+◌, ◌/◌, ◌%◌, ltb, eqb, length, Option, None, Some}
 use Rattle.log_format.specs.declared.Fault.{Fault}
 use Rattle.log_format.specs.declared.Fault.TheVariants.{FirstByte, TableField, BadRecord, EndsEarly, ByteTooMany}
 use Rattle.log_format.specs.declared.Form.{Form}
@@ -48,9 +47,9 @@ pub record Part : Type 0 where
 
 -- the first part that is bad or not whole, of so many bytes
 unfoldable pub first_fault : ℕ → List Part → Option (Fault × ℕ)
-first_fault n [] = none
+first_fault n [] = None
 first_fault n (p ∷ ps) =
-    cond (ltb n (p.start + p.size)) (some (EndsEarly, n)) (cond p.bad (some (p.fault, p.start)) (first_fault n ps))
+    cond (ltb n (p.start + p.size)) (Some (EndsEarly, n)) (cond p.bad (Some (p.fault, p.start)) (first_fault n ps))
 
 -- whether a first byte tells a form
 abbrev pub is_first : ℕ → Bool
@@ -114,13 +113,13 @@ ended s true = Bad ByteTooMany (log_end s)
 ended s false = Good (log_at s)
 
 abbrev pub after_bodies : List ℕ → Option (Fault × ℕ) → Reading
-after_bodies s (some found) = Bad found.0 found.1
-after_bodies s none = ended s (ltb (log_end s) (length s))
+after_bodies s (Some found) = Bad found.0 found.1
+after_bodies s None = ended s (ltb (log_end s) (length s))
 
 -- the bodies are looked at only where the table is good
 abbrev pub after_table : List ℕ → Option (Fault × ℕ) → Reading
-after_table s (some found) = Bad found.0 found.1
-after_table s none = after_bodies s (first_fault (length s) (body_parts s))
+after_table s (Some found) = Bad found.0 found.1
+after_table s None = after_bodies s (first_fault (length s) (body_parts s))
 
 unfoldable pub read_of : List ℕ → Reading
 read_of s = after_table s (first_fault (length s) (table_parts s))

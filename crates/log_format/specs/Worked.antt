@@ -1,12 +1,11 @@
 -- Logs worked by hand: their bytes, and one fault of each number.
-use Rattle.std.specs.Prelude.{◌≡◌, List, [], ◌∷◌, map, ℕ}
+use Rattle.std.specs.Prelude.{◌≡◌, List, [], ◌∷◌, map, ℕ, None, Some}
 use Rattle.log_format.specs.declared.Fault.TheVariants.{FirstByte, TableField, BadRecord, EndsEarly, ByteTooMany}
 use Rattle.log_format.specs.declared.Form.TheVariants.{Flow, Own}
 use Rattle.log_format.specs.Format.{Opening, Event, Log, bytes_of}
 use Rattle.log_format.specs.Refusals.{fault_number}
 use Rattle.log_format.specs.Reading.{Good, Bad, read_of}
 use Rattle.log_format.specs.Pairs.{tail_of, difference_of}
-use Rattle.std.proofs.Math.Option.{none, some}
 
 abbrev pub opening : ℕ → ℕ → Opening
 opening flow number = record { flow = flow; number = number }
@@ -90,13 +89,13 @@ pub record Worked : Type 0 where
   pub no_24 : read_of (small_bytes 16 (5 ∷ 1 ∷ 0 ∷ [])) ≡ Bad ByteTooMany 47
   -- two logs: an end more; and an end against a lost turn
   pub tail : tail_of (small_bytes 16 []) (small_bytes 20 (5 ∷ 0 ∷ 0 ∷ 0 ∷ [])) ≡ 5 ∷ 0 ∷ 0 ∷ 0 ∷ []
-  pub differ : difference_of (small_bytes 20 (1 ∷ 0 ∷ 0 ∷ 0 ∷ [])) (small_bytes 20 (5 ∷ 0 ∷ 0 ∷ 0 ∷ [])) ≡ some 47
+  pub differ : difference_of (small_bytes 20 (1 ∷ 0 ∷ 0 ∷ 0 ∷ [])) (small_bytes 20 (5 ∷ 0 ∷ 0 ∷ 0 ∷ [])) ≡ Some 47
   -- of form Own: a cell more; and a deadline of 1 against one of 2
   pub tail_own : tail_of (only_events 2 4 (2 ∷ 2 ∷ 0 ∷ 16 ∷ [])) (only_events 2 8 (2 ∷ 2 ∷ 0 ∷ 16 ∷ 2 ∷ 3 ∷ 1 ∷ 0 ∷ [])) ≡ 2 ∷ 3 ∷ 1 ∷ 0 ∷ []
-  pub differ_own : difference_of (only_events 2 4 (2 ∷ 2 ∷ 1 ∷ 0 ∷ [])) (only_events 2 4 (2 ∷ 2 ∷ 2 ∷ 0 ∷ [])) ≡ some 27
+  pub differ_own : difference_of (only_events 2 4 (2 ∷ 2 ∷ 1 ∷ 0 ∷ [])) (only_events 2 4 (2 ∷ 2 ∷ 2 ∷ 0 ∷ [])) ≡ Some 27
   -- the two forms are not compared, though no event is a cell: not an open turn with an open turn and an end, nor with an end
   pub tail_forms : tail_of (only_events 1 4 (0 ∷ 0 ∷ 0 ∷ 0 ∷ [])) (only_events 2 8 (0 ∷ 0 ∷ 0 ∷ 0 ∷ 5 ∷ 0 ∷ 0 ∷ 0 ∷ [])) ≡ []
-  pub differ_forms : difference_of (only_events 1 4 (0 ∷ 0 ∷ 0 ∷ 0 ∷ [])) (only_events 2 4 (5 ∷ 0 ∷ 0 ∷ 0 ∷ [])) ≡ none
+  pub differ_forms : difference_of (only_events 1 4 (0 ∷ 0 ∷ 0 ∷ 0 ∷ [])) (only_events 2 4 (5 ∷ 0 ∷ 0 ∷ 0 ∷ [])) ≡ None
   -- the limit: with one opening an event length of 65,508 makes 65,536 bytes and is right; with none 65,512 makes 65,537 and is wrong
   pub limit : read_of (1 ∷ 25 ∷ 0 ∷ 0 ∷ 0 ∷ 3 ∷ 0 ∷ 0 ∷ 0 ∷ 28 ∷ 0 ∷ 0 ∷ 0 ∷ 0 ∷ 0 ∷ 0 ∷ 0 ∷ 28 ∷ 0 ∷ 0 ∷ 0 ∷ 228 ∷ 255 ∷ 0 ∷ 0 ∷ []) ≡ Bad EndsEarly 25
   pub over : read_of (1 ∷ 25 ∷ 0 ∷ 0 ∷ 0 ∷ 0 ∷ 0 ∷ 0 ∷ 0 ∷ 25 ∷ 0 ∷ 0 ∷ 0 ∷ 0 ∷ 0 ∷ 0 ∷ 0 ∷ 25 ∷ 0 ∷ 0 ∷ 0 ∷ 232 ∷ 255 ∷ 0 ∷ 0 ∷ []) ≡ Bad TableField 21

@@ -10,19 +10,19 @@ use Rattle.log_format.specs.declared.Form.{Form}
 use Rattle.log_judging.specs.Judging.{bad_openings, bad_events, bad_records, first_bad, Judged}
 
 -- ---- the first of some tests that holds
-abbrev None : List Bool → Type 0
-None [] = Unit {0}
-None (b ∷ bs) = (b ≡ false) × None bs
+abbrev NoneBad : List Bool → Type 0
+NoneBad [] = Unit {0}
+NoneBad (b ∷ bs) = (b ≡ false) × NoneBad bs
 
-none_append : (xs ys : List Bool) → None xs → None ys → None (xs ++ ys)
+none_append : (xs ys : List Bool) → NoneBad xs → NoneBad ys → NoneBad (xs ++ ys)
 none_append [] ys h i = i
 none_append (x ∷ xs) ys h i = (h.0, none_append xs ys h.1 i)
 
-none_left : (xs ys : List Bool) → None (xs ++ ys) → None xs
+none_left : (xs ys : List Bool) → NoneBad (xs ++ ys) → NoneBad xs
 none_left [] ys h = tt
 none_left (x ∷ xs) ys h = (h.0, none_left xs ys h.1)
 
-none_right : (xs ys : List Bool) → None (xs ++ ys) → None ys
+none_right : (xs ys : List Bool) → NoneBad (xs ++ ys) → NoneBad ys
 none_right [] ys h = h
 none_right (x ∷ xs) ys h = none_right xs ys h.1
 
@@ -47,35 +47,35 @@ is_first (false ∷ bs) (suc p) t h =
     let r = is_first bs p t (λ k l. h (suc k) (omega arith)) in
     (ap suc r.0, omega (arith, r.1))
 
-none_first : (bs : List Bool) → None bs → length bs ≤ first_bad bs
+none_first : (bs : List Bool) → NoneBad bs → length bs ≤ first_bad bs
 unfolding first_bad
 none_first [] h = omega arith
 none_first (true ∷ bs) h = absurd (true≢false h.0)
 none_first (false ∷ bs) h = omega (arith, none_first bs h.1)
 
-first_none : (bs : List Bool) → length bs ≤ first_bad bs → None bs
+first_none : (bs : List Bool) → length bs ≤ first_bad bs → NoneBad bs
 unfolding first_bad
 first_none [] l = tt
 first_none (true ∷ bs) l = absurd (omega arith)
 first_none (false ∷ bs) l = (refl, first_none bs (omega arith))
 
 -- ---- a log with no bad record
-openings_none : (most least : ℕ) (os : List Opening) → GoodOpenings most least os → None (bad_openings most least os)
+openings_none : (most least : ℕ) (os : List Opening) → GoodOpenings most least os → NoneBad (bad_openings most least os)
 unfolding bad_openings
 openings_none most least [] g = tt
 openings_none most least (o ∷ os) g = (g.0, openings_none most (o.flow + 1) os g.1)
 
-openings_good : (most least : ℕ) (os : List Opening) → None (bad_openings most least os) → GoodOpenings most least os
+openings_good : (most least : ℕ) (os : List Opening) → NoneBad (bad_openings most least os) → GoodOpenings most least os
 unfolding bad_openings
 openings_good most least [] g = tt
 openings_good most least (o ∷ os) g = (g.0, openings_good most (o.flow + 1) os g.1)
 
-events_none : (form : Form) (es : List Event) → GoodEvents form es → None (bad_events form es)
+events_none : (form : Form) (es : List Event) → GoodEvents form es → NoneBad (bad_events form es)
 unfolding bad_events
 events_none form [] g = tt
 events_none form (e ∷ es) g = (g.0, events_none form es g.1)
 
-events_good : (form : Form) (es : List Event) → None (bad_events form es) → GoodEvents form es
+events_good : (form : Form) (es : List Event) → NoneBad (bad_events form es) → GoodEvents form es
 unfolding bad_events
 events_good form [] g = tt
 events_good form (e ∷ es) g = (g.0, events_good form es g.1)

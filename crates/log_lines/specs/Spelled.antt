@@ -1,6 +1,5 @@
 -- The lines of the log program as the rules spell them: each answer and each record of a log beside its words, letters and numbers.
-use Rattle.std.specs.Prelude.{Bool, true, false, [], ◌∷◌, ◌≡◌, ℕ, ◌≤◌}
-use Rattle.std.proofs.Math.Option.{some}
+use Rattle.std.specs.Prelude.{Bool, true, false, [], ◌∷◌, ◌≡◌, ℕ, ◌≤◌, Some}
 use Rattle.text.specs.Spelled.{bytes_of, field, spelled}
 use Rattle.lines.specs.Grammar.{text_of}
 use Rattle.lines.specs.Reading.{read_call}
@@ -32,7 +31,7 @@ pub record AnswersSpelled : Type 0 where
   pub too_long : written_line TooLong ≡ spelled (bytes_of "no" ∷ field (written_told TooLong).number ∷ [])
   -- the first place where two logs differ, or that there is none
   pub differ : (place : ℕ) → difference_line (At place) ≡ spelled (bytes_of "at" ∷ field place ∷ [])
-  pub nowhere : difference_line Nowhere ≡ spelled (bytes_of "none" ∷ [])
+  pub nowhere : difference_line Nowhere ≡ spelled (bytes_of "None" ∷ [])
 
 -- Each record beside its line, which is the line of a session; an event goes by its kind, and a kind that no log holds as an end.
 pub record RecordsSpelled : Type 0 where
@@ -45,5 +44,5 @@ pub record RecordsSpelled : Type 0 where
   pub begin : (w : ℕ) → (event_of w).kind ≡ 4 → shown_event w ≡ spelled (bytes_of "b" ∷ [])
   pub end : (w : ℕ) → 5 ≤ (event_of w).kind → shown_event w ≡ spelled (bytes_of "e" ∷ [])
   -- and a session reads the line as the record's call
-  pub opening_read : (urgent : Bool) (w : ℕ) → w ≤ 4294967295 → read_call (text_of (opening_call urgent w)) ≡ some (opening_call urgent w)
-  pub event_read : (w : ℕ) → w ≤ 4294967295 → read_call (text_of (event_call w)) ≡ some (event_call w)
+  pub opening_read : (urgent : Bool) (w : ℕ) → w ≤ 4294967295 → read_call (text_of (opening_call urgent w)) ≡ Some (opening_call urgent w)
+  pub event_read : (w : ℕ) → w ≤ 4294967295 → read_call (text_of (event_call w)) ≡ Some (event_call w)

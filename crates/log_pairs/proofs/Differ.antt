@@ -2,7 +2,7 @@
 use mathlib.Core.Path.{◌≡◌, refl, sym, ◌∙◌, ap}
 use mathlib.Core.Bool.{Bool, true, false, cond}
 use mathlib.Core.List.{List, [], ◌∷◌}
-use mathlib.Core.Option.{some}
+use Rattle.std.proofs.Common.{Some}
 use Prim.Native.Nat.{ℕ, suc, ◌+◌, ◌-◌, ◌≤◌, ◌<◌, min}
 use native.Mathlib.Omega.{arith}
 use borrow.Author.Tests.{eq-eqb, ne_eqb}
@@ -22,7 +22,7 @@ differs a b at = place_of (differ_from at (drop at a) (drop at b))
 
 module _ (a b : List ℕ) (at : ℕ) (found : Place) (before : differs a b at ≡ found) where
   module _ (la : at < length a) (lb : at < length b) where
-    opened : place_of (cond (eqb (byte_at a at) (byte_at b at)) (differ_from (at + 1) (drop (at + 1) a) (drop (at + 1) b)) (some at)) ≡ found
+    opened : place_of (cond (eqb (byte_at a at) (byte_at b at)) (differ_from (at + 1) (drop (at + 1) a) (drop (at + 1) b)) (Some at)) ≡ found
     unfolding differ_from
     opened = rw (drop_next a at (at + 1) refl la, drop_next b at (at + 1) refl lb) at before
 

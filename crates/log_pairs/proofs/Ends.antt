@@ -2,7 +2,7 @@
 use mathlib.Core.Path.{◌≡◌, refl, sym, ◌∙◌, ap}
 use mathlib.Core.Bool.{Bool, true, false, cond, ◌&&◌, true≢false, false≢true}
 use mathlib.Core.List.{List, [], ◌∷◌}
-use mathlib.Core.Option.{Option, none, some}
+use Rattle.std.proofs.Common.{Option, None, Some}
 use Prim.Native.Nat.{ℕ, ◌+◌, ◌-◌, ◌≤◌, ◌<◌}
 use native.Mathlib.Omega.{arith}
 use lib.Dec.{eqb}
@@ -27,7 +27,7 @@ rest_differs at [] ys e = absurd (true≢false e)
 rest_differs at (x ∷ xs) [] e = absurd (true≢false e)
 rest_differs at (x ∷ xs) (y ∷ ys) e = go (eqb x y) (rest_differs (at + 1) xs ys) e
   where
-    go : (t : Bool) → (is_none (differ_from (at + 1) xs ys) ≡ false → rest_of xs ys ≡ []) → is_none (cond t (differ_from (at + 1) xs ys) (some at)) ≡ false → cond t (rest_of xs ys) [] ≡ []
+    go : (t : Bool) → (is_none (differ_from (at + 1) xs ys) ≡ false → rest_of xs ys ≡ []) → is_none (cond t (differ_from (at + 1) xs ys) (Some at)) ≡ false → cond t (rest_of xs ys) [] ≡ []
     go true again e = again e
     go false again e = refl
 
@@ -37,7 +37,7 @@ rest_second at [] ys e l = refl
 rest_second at (x ∷ xs) [] e l = absurd (omega arith)
 rest_second at (x ∷ xs) (y ∷ ys) e l = go (eqb x y) (λ e. rest_second (at + 1) xs ys e (omega arith)) e
   where
-    go : (t : Bool) → (is_none (differ_from (at + 1) xs ys) ≡ true → rest_of xs ys ≡ drop (length xs) ys) → is_none (cond t (differ_from (at + 1) xs ys) (some at)) ≡ true → cond t (rest_of xs ys) [] ≡ drop (length xs) ys
+    go : (t : Bool) → (is_none (differ_from (at + 1) xs ys) ≡ true → rest_of xs ys ≡ drop (length xs) ys) → is_none (cond t (differ_from (at + 1) xs ys) (Some at)) ≡ true → cond t (rest_of xs ys) [] ≡ drop (length xs) ys
     go true again e = again e
     go false again e = absurd (false≢true e)
 
@@ -48,7 +48,7 @@ rest_first at [] (y ∷ ys) e l = absurd (omega arith)
 rest_first at (x ∷ xs) [] e l = refl
 rest_first at (x ∷ xs) (y ∷ ys) e l = go (eqb x y) (λ e. rest_first (at + 1) xs ys e (omega arith)) e
   where
-    go : (t : Bool) → (is_none (differ_from (at + 1) xs ys) ≡ true → rest_of xs ys ≡ drop (length ys) xs) → is_none (cond t (differ_from (at + 1) xs ys) (some at)) ≡ true → cond t (rest_of xs ys) [] ≡ drop (length ys) xs
+    go : (t : Bool) → (is_none (differ_from (at + 1) xs ys) ≡ true → rest_of xs ys ≡ drop (length ys) xs) → is_none (cond t (differ_from (at + 1) xs ys) (Some at)) ≡ true → cond t (rest_of xs ys) [] ≡ drop (length ys) xs
     go true again e = again e
     go false again e = absurd (false≢true e)
 
@@ -169,12 +169,12 @@ module _ (a b : List ℕ) where
         differs_there at told = sym (begins_is ∙ go (differ_from start (drop start a) (drop start b)) (sym found ∙ told))
           where
             go : (x : Option ℕ) → place_of x ≡ At at → is_none x ≡ false
-            go (some p) e = refl
-            go none e = absurd (let z : ◌≡◌ {A = ℕ} 0 1 = cc in omega arith)
+            go (Some p) e = refl
+            go None e = absurd (let z : ◌≡◌ {A = ℕ} 0 1 = cc in omega arith)
 
         pub differs_nowhere : place ≡ Nowhere → true ≡ begins a b
         differs_nowhere told = sym (begins_is ∙ go (differ_from start (drop start a) (drop start b)) (sym found ∙ told))
           where
             go : (x : Option ℕ) → place_of x ≡ Nowhere → is_none x ≡ true
-            go (some p) e = absurd (let z : ◌≡◌ {A = ℕ} 0 1 = cc in omega arith)
-            go none e = refl
+            go (Some p) e = absurd (let z : ◌≡◌ {A = ℕ} 0 1 = cc in omega arith)
+            go None e = refl

@@ -1,7 +1,7 @@
 -- The reading after a right table: the bodies, and then the end.
 use mathlib.Core.Path.{◌≡◌, refl, sym, ◌∙◌, ap}
 use mathlib.Core.List.{List, ◌++◌}
-use mathlib.Core.Option.{Option, none, some}
+use Rattle.std.proofs.Common.{Option, None, Some}
 use Prim.Native.Nat.{ℕ, ◌+◌, ◌/◌, ◌≤◌, ◌<◌}
 use native.Mathlib.Omega.{arith}
 use borrow.Author.Tests.{lt-ltb, le-ltb}
@@ -23,16 +23,16 @@ use Rattle.log_table.specs.declared.Lengths.{Lengths}
 use Rattle.log_table.specs.Scanning.{scan_of, lengths_of}
 
 -- a scan tells what it found
-found_is : (found : Option (Fault × ℕ)) (fault : Fault) (place : ℕ) → scan_of found ≡ Refused fault place → found ≡ some (fault, place)
-found_is none fault place e = absurd (let z : ◌≡◌ {A = ℕ} 0 1 = cc in omega arith)
-found_is (some x) fault place e = let a : x.0 ≡ fault = cc in let b : x.1 ≡ place = cc in rw (a, b)
+found_is : (found : Option (Fault × ℕ)) (fault : Fault) (place : ℕ) → scan_of found ≡ Refused fault place → found ≡ Some (fault, place)
+found_is None fault place e = absurd (let z : ◌≡◌ {A = ℕ} 0 1 = cc in omega arith)
+found_is (Some x) fault place e = let a : x.0 ≡ fault = cc in let b : x.1 ≡ place = cc in rw (a, b)
 
-pub none_is : (found : Option (Fault × ℕ)) → scan_of found ≡ Clean → found ≡ none
-none_is none e = refl
-none_is (some x) e = absurd (let z : ◌≡◌ {A = ℕ} 0 1 = cc in omega arith)
+pub none_is : (found : Option (Fault × ℕ)) → scan_of found ≡ Clean → found ≡ None
+none_is None e = refl
+none_is (Some x) e = absurd (let z : ◌≡◌ {A = ℕ} 0 1 = cc in omega arith)
 
 -- a log with a right table is not too long
-fits : (s : List ℕ) → first_fault (length s) (table_parts s) ≡ none → 25 + four_at s 5 + four_at s 13 + four_at s 21 ≤ most_bytes
+fits : (s : List ℕ) → first_fault (length s) (table_parts s) ≡ None → 25 + four_at s 5 + four_at s 13 + four_at s 21 ≤ most_bytes
 unfolding urgent_length fair_length event_length
 fits s e = (table_of s (all_good (length s) (table_parts s) e)).most
 
@@ -71,21 +71,21 @@ module _ (s : List ℕ) (form : Form) (first : ℕ) (told-by : form ≡ form_of 
   unfolding urgent_length fair_length event_length
   end_is = rw (is_u, is_f, is_e)
 
-  pub bodies_fit : first_fault (length s) (table_parts s) ≡ none → 25 + u + f + e ≤ most_bytes
+  pub bodies_fit : first_fault (length s) (table_parts s) ≡ None → 25 + u + f + e ≤ most_bytes
   bodies_fit clean = omega (arith, fits s clean, is_u, is_f, is_e)
 
   module _ (scan : Scan) (is : scan ≡ in_bodies form s u f e) where
-    pub bodies_refuse : (fault : Fault) (place : ℕ) → scan ≡ Refused fault place → No fault place ≡ verdict_of (after_table s none)
+    pub bodies_refuse : (fault : Fault) (place : ℕ) → scan ≡ Refused fault place → No fault place ≡ verdict_of (after_table s None)
     bodies_refuse fault place told = rw (found_is (first_fault (length s) (body_parts s)) fault place (sym in_body ∙ sym is ∙ told))
 
     module _ (told : scan ≡ Clean) where
-      past : verdict_of (after_table s none) ≡ verdict_of (after_bodies s none)
+      past : verdict_of (after_table s None) ≡ verdict_of (after_bodies s None)
       past = ap (λ (x : Option (Fault × ℕ)). verdict_of (after_bodies s x)) (none_is (first_fault (length s) (body_parts s)) (sym in_body ∙ sym is ∙ told))
 
-      pub too_many : 25 + u + f + e < length s → No ByteTooMany (25 + u + f + e) ≡ verdict_of (after_table s none)
+      pub too_many : 25 + u + f + e < length s → No ByteTooMany (25 + u + f + e) ≡ verdict_of (after_table s None)
       too_many m = sym (past ∙ rw (lt-ltb (log_end s) (length s) (omega (arith, end_is))) (ap (No ByteTooMany) end_is))
 
-      pub whole : length s ≤ 25 + u + f + e → Good (record { form = form; urgent = u / 3; fair = f / 3; events = e / 4 }) ≡ verdict_of (after_table s none)
+      pub whole : length s ≤ 25 + u + f + e → Good (record { form = form; urgent = u / 3; fair = f / 3; events = e / 4 }) ≡ verdict_of (after_table s None)
       unfolding urgent_length fair_length event_length
       whole m =
           sym (past ∙ rw (le-ltb (log_end s) (length s) (omega (arith, end_is))) (counted (openings_many s 25 (four_at s 5 / 3)) (openings_many s (fair_start s) (four_at s 13 / 3)) (events_many s (event_start s) (four_at s 21 / 4))))
@@ -100,9 +100,9 @@ module _ (s : List ℕ) (scan : Scan) (is : scan ≡ scan_of (first_fault (lengt
   unfolding read_of
   table_refuses fault place told = rw (found_is (first_fault (length s) (table_parts s)) fault place (sym is ∙ told))
 
-  pub table_clean : scan ≡ Clean → first_fault (length s) (table_parts s) ≡ none
+  pub table_clean : scan ≡ Clean → first_fault (length s) (table_parts s) ≡ None
   table_clean told = none_is (first_fault (length s) (table_parts s)) (sym is ∙ told)
 
-  pub table_passes : (verdict : Verdict) → verdict ≡ verdict_of (after_table s none) → scan ≡ Clean → verdict ≡ verdict_of (read_of s)
+  pub table_passes : (verdict : Verdict) → verdict ≡ verdict_of (after_table s None) → scan ≡ Clean → verdict ≡ verdict_of (read_of s)
   unfolding read_of
   table_passes verdict v told = v ∙ ap (λ (x : Option (Fault × ℕ)). verdict_of (after_table s x)) (sym (table_clean told))

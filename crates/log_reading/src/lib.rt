@@ -3,8 +3,7 @@
 
 mod bodies;
 
-ghost use Rattle.std.specs.Prelude.{◌≡◌, length};
-ghost use Rattle.std.proofs.Math.Option.{none};
+ghost use Rattle.std.specs.Prelude.{◌≡◌, length, None};
 ghost use Rattle.log_format.specs.Reading.{table_parts, first_fault, after_table, read_of, verdict_of};
 
 use bodies::bodies;
@@ -23,8 +22,8 @@ pub fn read(log: &[u8]) -> Verdict
 
 // The rest of the reading, once the table is right.
 fn after_table(log: &[u8]) -> Verdict
-    requires { first_fault (length log.now) (table_parts log.now) ≡ none }
-    ensures { result ≡ verdict_of (after_table log.now none) }
+    requires { first_fault (length log.now) (table_parts log.now) ≡ None }
+    ensures { result ≡ verdict_of (after_table log.now None) }
 {
     let form = Form::told_by(log_table::byte(log, 0));
     let stated = log_table::stated(log);

@@ -2,7 +2,7 @@
 use mathlib.Core.Path.{◌≡◌, refl, sym, ◌∙◌, ap}
 use mathlib.Core.Bool.{Bool, true, false, cond, not}
 use mathlib.Core.List.{List, [], ◌∷◌, ◌++◌}
-use mathlib.Core.Option.{some}
+use Rattle.std.proofs.Common.{Some}
 use Prim.Native.Nat.{ℕ, ◌+◌, ◌≤◌, ◌<◌}
 use borrow.Author.Tests.{lt-ltb, le-ltb}
 use lib.Dec.{ltb, eqb}
@@ -33,7 +33,7 @@ module _ (n : ℕ) (p : Part) (ps : List Part) where
   unfolding first_fault
   one_more_lem = go (ltb n (p.start + p.size)) p.bad
     where
-      go : (a b : Bool) → then_of (scan_of (cond a (some (EndsEarly, n)) (cond b (some (p.fault, p.start)) (first_fault n [])))) (scan_of (first_fault n ps)) ≡ scan_of (cond a (some (EndsEarly, n)) (cond b (some (p.fault, p.start)) (first_fault n ps)))
+      go : (a b : Bool) → then_of (scan_of (cond a (Some (EndsEarly, n)) (cond b (Some (p.fault, p.start)) (first_fault n [])))) (scan_of (first_fault n ps)) ≡ scan_of (cond a (Some (EndsEarly, n)) (cond b (Some (p.fault, p.start)) (first_fault n ps)))
       go true b = refl
       go false true = refl
       go false false = refl

@@ -1,6 +1,5 @@
 -- What is found in parts of the bytes, as a scan answers it.
-use Rattle.std.specs.Prelude.{not, List, [], ◌∷◌, ℕ, ◌+◌, eqb}
-use Rattle.std.proofs.Math.Option.{Option, none, some}
+use Rattle.std.specs.Prelude.{not, List, [], ◌∷◌, ℕ, ◌+◌, eqb, Option, None, Some}
 use Rattle.log_format.specs.declared.Fault.{Fault}
 use Rattle.log_format.specs.Faults.{four_at}
 use Rattle.log_format.specs.Reading.{Part, field, bad_opening_length, bad_event_length, first_fault}
@@ -9,8 +8,8 @@ use Rattle.log_table.specs.declared.scan.Scan.{Scan}
 use Rattle.log_table.specs.declared.scan.Scan.TheVariants.{Clean, Refused}
 
 abbrev pub scan_of : Option (Fault × ℕ) → Scan
-scan_of none = Clean
-scan_of (some found) = Refused found.0 found.1
+scan_of None = Clean
+scan_of (Some found) = Refused found.0 found.1
 
 -- in one part, of so many bytes
 abbrev pub found_in : ℕ → Part → Scan

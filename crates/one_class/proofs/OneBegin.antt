@@ -2,7 +2,7 @@
 -- its flow's node does; the node's finish is then worked out from the same start, length and weight as the packet's was.
 use mathlib.Core.Path.{◌≡◌, refl, sym, ap, ◌∙◌, subst}
 use mathlib.Core.Bool.{Bool, true, false, cond, ◌||◌, true≢false}
-use mathlib.Core.Option.{none, some}
+use Rattle.std.proofs.Common.{None, Some}
 use Prim.Native.Nat.{ℕ, suc, ◌+◌, ◌*◌, ◌<◌}
 use native.Mathlib.Omega.{arith}
 use borrow.Author.Tests.{eqb-true, eq-eqb, ne_eqb, lt-leb}
@@ -171,9 +171,9 @@ module _
         → FlowNode next.queue later.accepted later.moments f y
     unfolding begun_of
     other_node f b n y z =
-        let none = ap bit (ne_eqb flow f (λ q. n (sym q))) in
-        let same : bit (eqb flow f) + begun_of h.moments f ≡ begun_of h.moments f = omega (arith, none) in
-        flow_stays z next.queue later.accepted later.moments refl (omega (arith, waiting_less f b, none))
+        let None = ap bit (ne_eqb flow f (λ q. n (sym q))) in
+        let same : bit (eqb flow f) + begun_of h.moments f ≡ begun_of h.moments f = omega (arith, None) in
+        flow_stays z next.queue later.accepted later.moments refl (omega (arith, waiting_less f b, None))
         (ap (finish_before h.accepted f) same) (λ i w. (none_served t v h o g idle place p e f, ap (start_noted h.accepted f) same))
 
     -- what the way up leaves
@@ -196,7 +196,7 @@ module _
         )
 
 -- a begin
-pub told_begin : (t : Tree) (v : Fair) (h : Packets) → TreeOf t v h → Good v h → AsGiven h → (refusal_in (begin_of (beside t v)).answer ≡ some TagsUsedUp → ⊥)
+pub told_begin : (t : Tree) (v : Fair) (h : Packets) → TreeOf t v h → Good v h → AsGiven h → (refusal_in (begin_of (beside t v)).answer ≡ Some TagsUsedUp → ⊥)
     → Told (begin_of (beside t v)) (fair_begin v) (note_service h (fair_begin v).answer)
 unfolding begin_of fair_begin begin_by first_of
 told_begin t v h o g given fits = go v.queue.service.busy refl (chosen_by by_start v.queue) refl fits
@@ -204,25 +204,25 @@ told_begin t v h o g given fits = go v.queue.service.busy refl (chosen_by by_sta
     -- the class lane's begin, with the packet that it chooses
     class_by : Bool → Choice Place → Done
     class_by busy c =
-        unless (refused (beside t v)) (cond busy (some PacketInService) (cond (is_none c) (some NothingWaits) (cond (beyond (beside t v) c) (some TagsUsedUp) none)))
+        unless (refused (beside t v)) (cond busy (Some PacketInService) (cond (is_none c) (Some NothingWaits) (cond (beyond (beside t v) c) (Some TagsUsedUp) None)))
         (begun (beside t v) c)
 
     -- and the fair lane's
     fair_by : Bool → Bool → Choice Place → FairDone
     fair_by busy none_waits c =
-        fair_begun v (unless (refused_in v.queue) (cond busy (some PacketInService) (cond none_waits (some NothingWaits) none)) (begun_in v.queue c))
+        fair_begun v (unless (refused_in v.queue) (cond busy (Some PacketInService) (cond none_waits (Some NothingWaits) None)) (begun_in v.queue c))
 
     -- the packet that both choose begins
     begins : (b : v.queue.service.busy ≡ false) (place : ℕ) (p : Place) → chosen_by by_start v.queue ≡ at place p
         → (past : Bool) → passes_for t (place_flow place) p.length ≡ past
-        → (refusal_in (unless (refused (beside t v)) (cond past (some TagsUsedUp) none) (begun (beside t v) (at place (bare_packet p)))).answer ≡ some TagsUsedUp → ⊥)
-        → Told (unless (refused (beside t v)) (cond past (some TagsUsedUp) none) (begun (beside t v) (at place (bare_packet p)))) (fair_by false false (at place p))
+        → (refusal_in (unless (refused (beside t v)) (cond past (Some TagsUsedUp) None) (begun (beside t v) (at place (bare_packet p)))).answer ≡ Some TagsUsedUp → ⊥)
+        → Told (unless (refused (beside t v)) (cond past (Some TagsUsedUp) None) (begun (beside t v) (at place (bare_packet p)))) (fair_by false false (at place p))
         (note_service h (fair_by false false (at place p)).answer)
     begins b place p e true q n = absurd (n refl)
     begins b place p e false q n = told_begun t v h o g given b place p e q
 
     go : (busy : Bool) → v.queue.service.busy ≡ busy → (c : Choice Place) → chosen_by by_start v.queue ≡ c
-        → (refusal_in (class_by busy (chosen (beside t v))).answer ≡ some TagsUsedUp → ⊥)
+        → (refusal_in (class_by busy (chosen (beside t v))).answer ≡ Some TagsUsedUp → ⊥)
         → Told (class_by busy (chosen (beside t v))) (fair_by busy (eqb (waiting v.queue) 0) c) (note_service h (fair_by busy (eqb (waiting v.queue) 0) c).answer)
     go true b c e n = (refl, refl, o)
     go false b nothing e n =
@@ -232,6 +232,6 @@ told_begin t v h o g given fits = go v.queue.service.busy refl (chosen_by by_sta
         (sym (ne_eqb (waiting v.queue) 0 (λ q. omega (arith, some_held is_held (key_by by_start) free_packet refl v.queue.packets place p e))))
         (subst
         (λ (c : Choice Place).
-        (refusal_in (class_by false c).answer ≡ some TagsUsedUp → ⊥)
+        (refusal_in (class_by false c).answer ≡ Some TagsUsedUp → ⊥)
         → Told (class_by false c) (fair_by false false (at place p)) (note_service h (fair_by false false (at place p)).answer))
         (sym (chosen_same t v h o g given b place p e)) (begins b place p e (passes_for t (place_flow place) p.length) refl) n)

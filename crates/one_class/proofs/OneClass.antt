@@ -2,7 +2,7 @@
 -- answered alike.
 use mathlib.Core.Path.{◌≡◌, refl, sym, subst}
 use mathlib.Core.List.{List, [], ◌∷◌, map}
-use mathlib.Core.Option.{some}
+use Rattle.std.proofs.Common.{Some}
 use Rattle.units.specs.declared.Refusal.TheVariants.{TagsUsedUp}
 use Rattle.places.specs.Members.{Each}
 use Rattle.packets.specs.declared.Answer.{Answer as FairAnswer}
@@ -37,11 +37,11 @@ note_of h End a = note_service h a
 
 -- an answer is not 6
 abbrev NotSix : Answer → Type 0
-NotSix a = refusal_in a ≡ some TagsUsedUp → ⊥
+NotSix a = refusal_in a ≡ Some TagsUsedUp → ⊥
 
 -- and of the fair lane
 abbrev FairNotSix : FairAnswer → Type 0
-FairNotSix a = fair_refusal a ≡ some TagsUsedUp → ⊥
+FairNotSix a = fair_refusal a ≡ Some TagsUsedUp → ⊥
 
 module _ (v : Fair) (h : Packets) (g : Good v h) (given : AsGiven h) where
   -- each call keeps what holds of the fair lane

@@ -3,7 +3,7 @@
 use mathlib.Core.Path.{◌≡◌, refl, sym, ap, ◌∙◌, subst}
 use mathlib.Core.Bool.{false}
 use mathlib.Core.List.{List}
-use mathlib.Core.Option.{Option, none, some}
+use Rattle.std.proofs.Common.{Option, None, Some}
 use Prim.Native.Nat.{ℕ, ◌≤◌, ◌<◌}
 use native.Mathlib.Omega.{arith}
 use borrow.Author.Tests.{ltb-false}
@@ -60,12 +60,12 @@ beside t v = record { tree = t; queue = bare v.queue }
 
 -- two calls of which the same refuses each: what holds of every refusal of both, and where no ground holds of the second's
 pub by_grounds : (P : Option Refusal → Option Refusal → Type 0) (r : Option Refusal) (gs : List Ground) → r ≡ first_of gs
-    → ((r : Refusal) → P (some r) (some r)) → (NoneHolds gs → P none none) → P r (first_of gs)
+    → ((r : Refusal) → P (Some r) (Some r)) → (NoneHolds gs → P None None) → P r (first_of gs)
 by_grounds P r gs e no_way ok = subst (λ (x : Option Refusal). P x (first_of gs)) (sym e) (go (first_of gs) refl)
   where
     go : (x : Option Refusal) → first_of gs ≡ x → P x x
-    go none e = ok (none_holds gs e)
-    go (some r) e = no_way r
+    go None e = ok (none_holds gs e)
+    go (Some r) e = no_way r
 
 -- a flow's node where the call changed nothing of what it tells
 pub flow_stays : {q : Queue} {ps : List Packet} {ms : List Moment} {g : ℕ} {y : Node} → FlowNode q ps ms g y

@@ -3,7 +3,7 @@
 -- told the same finish. Where something waits, the first packet that waits is the same as before, and the node stays.
 use mathlib.Core.Path.{◌≡◌, refl, sym, ap, ◌∙◌, subst}
 use mathlib.Core.Bool.{Bool, true, false, cond}
-use mathlib.Core.Option.{Option, some}
+use Rattle.std.proofs.Common.{Option, Some}
 use Prim.Native.Nat.{ℕ, ◌+◌, ◌≤◌, ◌<◌}
 use native.Mathlib.Omega.{arith}
 use borrow.Author.Tests.{eqb-true, eqb-false, ne_eqb, le-ltb, ltb-false, leb-false, not-false}
@@ -176,7 +176,7 @@ module _
   )
 
 -- an offer
-pub told_offer : (t : Tree) (v : Fair) (h : Packets) → TreeOf t v h → Good v h → (flow bytes : ℕ) → (fair_refusal (fair_offer v flow bytes).answer ≡ some TagsUsedUp → ⊥)
+pub told_offer : (t : Tree) (v : Fair) (h : Packets) → TreeOf t v h → Good v h → (flow bytes : ℕ) → (fair_refusal (fair_offer v flow bytes).answer ≡ Some TagsUsedUp → ⊥)
     → Told (offer_of (beside t v) flow bytes) (fair_offer v flow bytes) (note_offer h flow bytes (fair_offer v flow bytes).answer)
 unfolding offer_of fair_offer put_of
 told_offer t v h o g flow bytes fits =

@@ -1,6 +1,5 @@
 -- The fair lane and a tree of one class, side by side.
-use Rattle.std.specs.Prelude.{◌≡◌, List, [], ◌∷◌, map}
-use Rattle.std.proofs.Math.Option.{some}
+use Rattle.std.specs.Prelude.{◌≡◌, List, [], ◌∷◌, map, Some}
 use Rattle.units.specs.declared.Refusal.TheVariants.{TagsUsedUp}
 use Rattle.places.specs.Members.{Each}
 use Rattle.packets.specs.declared.Answer.{Answer as FairAnswer}
@@ -47,6 +46,6 @@ as_class (FairEnded flow number length) = Ended flow number length
 abbrev pub OneClassFair : Type 0
 OneClassFair =
     (p : Plan) → Fits p → p.count ≡ 1 → (calls : List Call)
-    → Each (λ (a : FairAnswer). fair_refusal a ≡ some TagsUsedUp → ⊥) (fair_answers fresh_lane calls)
-    → Each (λ (a : Answer). refusal_in a ≡ some TagsUsedUp → ⊥) (answers (lane_of p) calls)
+    → Each (λ (a : FairAnswer). fair_refusal a ≡ Some TagsUsedUp → ⊥) (fair_answers fresh_lane calls)
+    → Each (λ (a : Answer). refusal_in a ≡ Some TagsUsedUp → ⊥) (answers (lane_of p) calls)
     → answers (lane_of p) calls ≡ map as_class (fair_answers fresh_lane calls)

@@ -1,7 +1,7 @@
 -- What a begin answers is what the least held place holds, and that place leads.
 use mathlib.Core.Path.{◌≡◌, refl}
 use mathlib.Core.Bool.{Bool, true, false, cond}
-use mathlib.Core.Option.{none, some}
+use Rattle.std.proofs.Common.{None, Some}
 use Prim.Native.Nat.{ℕ}
 use native.Mathlib.Omega.{arith}
 use lib.Dec.{eqb}
@@ -23,7 +23,7 @@ begins_first rank q flow number bytes start = go q.service.busy refl (eqb (waiti
   where
     -- the begin, where it is refused or not and has chosen
     by_choice : Bool → Bool → Choice Packet → Kept
-    by_choice busy none_waits x = unless (refused q) (cond busy (some PacketInService) (cond none_waits (some NothingWaits) none)) (begun q x)
+    by_choice busy none_waits x = unless (refused q) (cond busy (Some PacketInService) (cond none_waits (Some NothingWaits) None)) (begun q x)
 
     go : (busy : Bool) → q.service.busy ≡ busy → (none_waits : Bool) → eqb (waiting q) 0 ≡ none_waits → (x : Choice Packet) → chosen_by rank q ≡ x
         → (by_choice busy none_waits x).answer ≡ Begun flow number bytes start → BegunFirst rank q flow number bytes start

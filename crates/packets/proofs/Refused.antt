@@ -1,7 +1,7 @@
 -- A call is refused exactly for the first of its grounds that holds.
 use mathlib.Core.Path.{◌≡◌, refl}
 use mathlib.Core.Bool.{Bool, true, false, cond}
-use mathlib.Core.Option.{Option, none, some}
+use Rattle.std.proofs.Common.{Option, None, Some}
 use borrow.Author.Tests.{eq-eqb}
 use Rattle.units.specs.Refusals.{first_of, unless}
 use Rattle.units.specs.declared.Refusal.{Refusal}
@@ -21,10 +21,10 @@ use Rattle.packets.specs.Answers.{refusal_in}
 use Rattle.packets.specs.Laws.{RefusedFirst}
 
 module _ (q : Queue) where
-  flows_first : (o : Option Refusal) (d : Flows) → refusal_in d.answer ≡ none → refusal_in (unless (refused_flows q) o d).answer ≡ o
+  flows_first : (o : Option Refusal) (d : Flows) → refusal_in d.answer ≡ None → refusal_in (unless (refused_flows q) o d).answer ≡ o
   flows_first = unless_first (refused_flows q) (λ (d : Flows). refusal_in d.answer) (λ r. refl)
 
-  first : (o : Option Refusal) (d : Kept) → refusal_in d.answer ≡ none → refusal_in (unless (refused q) o d).answer ≡ o
+  first : (o : Option Refusal) (d : Kept) → refusal_in d.answer ≡ None → refusal_in (unless (refused q) o d).answer ≡ o
   first = unless_first (refused q) (λ (d : Kept). refusal_in d.answer) (λ r. refl)
 
   -- begin: with nothing to choose from, it is refused for that, or for the packet in service
@@ -34,8 +34,8 @@ module _ (q : Queue) where
   begin_first rank nothing e = rw (eq-eqb (waiting q) 0 (none_held is_held (key_by rank) free_packet refl q.packets e)) (go q.service.busy)
     where
       go : (b : Bool)
-          → refusal_in (unless (refused q) (cond b (some PacketInService) (some NothingWaits)) (refused q NothingWaits)).answer
-          ≡ cond b (some PacketInService) (some NothingWaits)
+          → refusal_in (unless (refused q) (cond b (Some PacketInService) (Some NothingWaits)) (refused q NothingWaits)).answer
+          ≡ cond b (Some PacketInService) (Some NothingWaits)
       go true = refl
       go false = refl
   begin_first rank (at place p) e = first (first_of (begin_grounds q)) (begun q (at place p)) refl

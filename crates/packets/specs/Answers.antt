@@ -1,6 +1,5 @@
 -- The number and the values that the rules give for each answer of a queue of packets, and the refusal in it.
-use Rattle.std.specs.Prelude.{[], ◌∷◌}
-use Rattle.std.proofs.Math.Option.{Option, none, some}
+use Rattle.std.specs.Prelude.{[], ◌∷◌, Option, None, Some}
 use Rattle.units.specs.declared.Refusal.{Refusal}
 use Rattle.units.specs.declared.Tag.{Tag}
 use Rattle.units.specs.Answers.{Told, refusal, values}
@@ -17,12 +16,12 @@ told (Begun flow number length start) = values (flow ∷ number ∷ length ∷ s
 told (Ended flow number length) = values (flow ∷ number ∷ length ∷ [])
 
 abbrev pub refusal_in : Answer → Option Refusal
-refusal_in (Refused r) = some r
-refusal_in Opened = none
-refusal_in Closed = none
-refusal_in (Accepted number start finish) = none
-refusal_in (Begun flow number length start) = none
-refusal_in (Ended flow number length) = none
+refusal_in (Refused r) = Some r
+refusal_in Opened = None
+refusal_in Closed = None
+refusal_in (Accepted number start finish) = None
+refusal_in (Begun flow number length start) = None
+refusal_in (Ended flow number length) = None
 
 -- the start tag that a begin is answered; of any other answer, the tag given
 abbrev pub start_told : Tag → Answer → Tag

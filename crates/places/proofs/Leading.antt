@@ -5,7 +5,7 @@ use mathlib.Core.List.{List}
 use Prim.Native.Nat.{ℕ, ◌<◌}
 use borrow.Author.Tests.{ltb-true}
 use lib.Dec.{ltb}
-use Rattle.places.specs.Members.{Each, Some}
+use Rattle.places.specs.Members.{Each, Any}
 use Rattle.places.specs.Places.{count}
 use Rattle.places.specs.Choice.{Key, comes_before, nothing, at, Leads}
 use Rattle.places.proofs.Members.{none_passes, some_passes, each_map, some_map}
@@ -49,7 +49,7 @@ module _
 
     -- by a test of whether two records are alike in all that can be asked
     module _ (same : X → X → Bool) (self : (x : X) → same x x ≡ true) (told : (x y : X) → same x y ≡ true → x ≡ y) where
-      pub it_waits : Some (λ (a : A). (waits a ≡ true) × (seen a ≡ view place p)) ys
+      pub it_waits : Any (λ (a : A). (waits a ≡ true) × (seen a ≡ view place p)) ys
       it_waits =
           some_map (λ (a : A). (same (seen a) (view place p) && waits a) ≡ true) _
           (λ a t.
@@ -58,7 +58,7 @@ module _
           ys (some_passes (λ (a : A). same (seen a) (view place p) && waits a) ys (some_waits (λ (x : X). same x (view place p)) (self (view place p))))
 
       pub it_is_first :
-          Some
+          Any
           (λ (a : A).
           (waits a ≡ true)
           × (seen a ≡ view place p)

@@ -7,7 +7,7 @@ use Prim.Native.Nat.{ℕ, ◌<◌}
 use borrow.Author.Tests.{eqb-true, ne_eqb}
 use lib.Dec.{eqb}
 use lib.ListN.{length, get_or, set}
-use Rattle.places.specs.Members.{Each, Some}
+use Rattle.places.specs.Members.{Each, Any}
 use Rattle.places.specs.Marks.{Mark, opens, closes, open_in, in_force}
 use Rattle.places.proofs.Members.{each_map, each_both}
 use Rattle.places.proofs.Stores.{set_cases}
@@ -32,21 +32,21 @@ module _ (P : ℕ → Type 0) (marks : List Mark) (k : (f : ℕ) → open_in mar
       go false o = k f o
 
 -- the number in force of an open flow is that of one of its openings
-pub force_told : (marks : List Mark) (flow : ℕ) → open_in marks flow ≡ true → Some (λ (m : Mark). m ≡ opens flow (in_force marks flow)) marks
+pub force_told : (marks : List Mark) (flow : ℕ) → open_in marks flow ≡ true → Any (λ (m : Mark). m ≡ opens flow (in_force marks flow)) marks
 unfolding open_in in_force
 force_told [] flow o = absurd (false≢true o)
 force_told (opens f number ∷ marks) flow o = go (eqb f flow) refl o (force_told marks flow)
   where
     go : (t : Bool) → eqb f flow ≡ t → cond t true (open_in marks flow) ≡ true
-        → (open_in marks flow ≡ true → Some (λ (m : Mark). m ≡ opens flow (in_force marks flow)) marks)
-        → Some (λ (m : Mark). m ≡ opens flow (cond t number (in_force marks flow))) (opens f number ∷ marks)
+        → (open_in marks flow ≡ true → Any (λ (m : Mark). m ≡ opens flow (in_force marks flow)) marks)
+        → Any (λ (m : Mark). m ≡ opens flow (cond t number (in_force marks flow))) (opens f number ∷ marks)
     go true e p earlier = inl (ap (λ (x : ℕ). opens x number) (eqb-true f flow e))
     go false e p earlier = inr (earlier p)
 force_told (closes f ∷ marks) flow o = go (eqb f flow) o (force_told marks flow)
   where
     go : (t : Bool) → cond t false (open_in marks flow) ≡ true
-        → (open_in marks flow ≡ true → Some (λ (m : Mark). m ≡ opens flow (in_force marks flow)) marks)
-        → Some (λ (m : Mark). m ≡ opens flow (in_force marks flow)) (closes f ∷ marks)
+        → (open_in marks flow ≡ true → Any (λ (m : Mark). m ≡ opens flow (in_force marks flow)) marks)
+        → Any (λ (m : Mark). m ≡ opens flow (in_force marks flow)) (closes f ∷ marks)
     go true p earlier = absurd (false≢true p)
     go false p earlier = inr (earlier p)
 

@@ -8,7 +8,7 @@ use native.Mathlib.Nat.{not-suc-le-zero}
 use native.Mathlib.Omega.{arith}
 use lib.ListN.{length, get_or, set, replicate}
 use Rattle.places.specs.Places.{bit, count}
-use Rattle.places.specs.Members.{Each, Some}
+use Rattle.places.specs.Members.{Each, Any}
 use Rattle.places.proofs.Count.{bit_le}
 
 module _ {A : Type 0} where
@@ -34,12 +34,12 @@ module _ {A : Type 0} where
   each_counts p q (x ∷ xs) e = omega (arith, bit_le (p x) (q x) e.0, each_counts p q xs e.1)
 
   -- some passes
-  pub some_passes : (p : A → Bool) (xs : List A) → 0 < count p xs → Some (λ x. p x ≡ true) xs
+  pub some_passes : (p : A → Bool) (xs : List A) → 0 < count p xs → Any (λ x. p x ≡ true) xs
   unfolding count
   some_passes p [] h = absurd (not-suc-le-zero h)
   some_passes p (x ∷ xs) h = go (p x) refl h (some_passes p xs)
     where
-      go : (t : Bool) → p x ≡ t → 0 < bit t + count p xs → (0 < count p xs → Some (λ y. p y ≡ true) xs) → Some (λ y. p y ≡ true) (x ∷ xs)
+      go : (t : Bool) → p x ≡ t → 0 < bit t + count p xs → (0 < count p xs → Any (λ y. p y ≡ true) xs) → Any (λ y. p y ≡ true) (x ∷ xs)
       go true e l r = inl e
       go false e l r = inr (r (omega arith))
 
@@ -71,7 +71,7 @@ module _ {A : Type 0} where
   each_replicate P zero x p = tt
   each_replicate P (suc n) x p = (p, each_replicate P n x p)
 
-  pub some_map : (P Q : A → Type 0) → ((x : A) → P x → Q x) → (xs : List A) → Some P xs → Some Q xs
+  pub some_map : (P Q : A → Type 0) → ((x : A) → P x → Q x) → (xs : List A) → Any P xs → Any Q xs
   some_map P Q f [] e = absurd e
   some_map P Q f (x ∷ xs) (inl p) = inl (f x p)
   some_map P Q f (x ∷ xs) (inr e) = inr (some_map P Q f xs e)
@@ -95,13 +95,13 @@ module _ {A : Type 0} where
   each_set P (y ∷ xs) (suc i) x p e = (e.0, each_set P xs i x p e.1)
 
   -- what follows from each member that a statement holds of follows where it holds of some
-  pub some_gives : (P : A → Type 0) (R : Type 0) → ((x : A) → P x → R) → (xs : List A) → Some P xs → R
+  pub some_gives : (P : A → Type 0) (R : Type 0) → ((x : A) → P x → R) → (xs : List A) → Any P xs → R
   some_gives P R f [] s = absurd s
   some_gives P R f (x ∷ xs) (inl p) = f x p
   some_gives P R f (x ∷ xs) (inr s) = some_gives P R f xs s
 
   -- what holds of each holds of the one that a statement holds of
-  pub some_both : (P Q : A → Type 0) (xs : List A) → Some P xs → Each Q xs → Some (λ x. P x × Q x) xs
+  pub some_both : (P Q : A → Type 0) (xs : List A) → Any P xs → Each Q xs → Any (λ x. P x × Q x) xs
   some_both P Q [] s e = s
   some_both P Q (x ∷ xs) (inl p) e = inl (p, e.0)
   some_both P Q (x ∷ xs) (inr s) e = inr (some_both P Q xs s e.1)

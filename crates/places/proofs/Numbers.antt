@@ -10,7 +10,7 @@ use native.Mathlib.Omega.{arith}
 use borrow.Author.Tests.{eqb-true, eq-eqb}
 use lib.Dec.{eqb}
 use Rattle.places.specs.Places.{bit, count}
-use Rattle.places.specs.Members.{Some}
+use Rattle.places.specs.Members.{Any}
 use Rattle.places.specs.Numbers.{of_flow, is_this, Numbered}
 use Rattle.places.proofs.Tests.{and_told}
 
@@ -55,17 +55,17 @@ module _ {A : Type 0} (flow number : A → ℕ) where
       go false p r = omega arith
 
   -- every number below the count is that of some record of the flow
-  pub some_below : (f n : ℕ) (xs : List A) → Numbered flow number xs → n < of_flow flow f xs → Some (λ (a : A). (flow a ≡ f) × (number a ≡ n)) xs
+  pub some_below : (f n : ℕ) (xs : List A) → Numbered flow number xs → n < of_flow flow f xs → Any (λ (a : A). (flow a ≡ f) × (number a ≡ n)) xs
   unfolding count
   some_below f n [] k l = absurd (omega arith)
   some_below f n (a ∷ rest) k l = go (eqb (flow a) f) refl l (some_below f n rest k.1)
     where
       go : (t : Bool) → eqb (flow a) f ≡ t → n < bit t + of_flow flow f rest
-          → (n < of_flow flow f rest → Some (λ (b : A). (flow b ≡ f) × (number b ≡ n)) rest)
-          → Some (λ (b : A). (flow b ≡ f) × (number b ≡ n)) (a ∷ rest)
+          → (n < of_flow flow f rest → Any (λ (b : A). (flow b ≡ f) × (number b ≡ n)) rest)
+          → Any (λ (b : A). (flow b ≡ f) × (number b ≡ n)) (a ∷ rest)
       go true p m i = this (eqb-true (flow a) f p) (ℕ_discrete (number a) n)
         where
-          this : flow a ≡ f → Dec (number a ≡ n) → Some (λ (b : A). (flow b ≡ f) × (number b ≡ n)) (a ∷ rest)
+          this : flow a ≡ f → Dec (number a ≡ n) → Any (λ (b : A). (flow b ≡ f) × (number b ≡ n)) (a ∷ rest)
           this e (yes q) = inl (e, q)
           this e (no q) = inr (i (omega (arith, m, q, head_number f a rest k e)))
       go false p m i = inr (i (omega arith))

@@ -1,6 +1,5 @@
 -- An answer in plain numbers, for programs in C: its kind, then the refusal's number or the values that the rules name, in their order.
-use Rattle.std.specs.Prelude.{List, [], ◌∷◌, ℕ, get_or}
-use Rattle.std.proofs.Math.Option.{Option, none, some}
+use Rattle.std.specs.Prelude.{List, [], ◌∷◌, ℕ, get_or, Option, None, Some}
 use Rattle.units.specs.Answers.{Told}
 use Rattle.units.specs.declared.Refusal.{Refusal}
 use Rattle.urgent.specs.declared.Answer.{Answer as UrgentAnswer}
@@ -35,8 +34,8 @@ kind_of (Fair answer) = fair_kind answer
 
 -- what stands beside the kind: the number of a refusal, or the values
 abbrev pub figures_of : Option Refusal → Told → List ℕ
-figures_of none t = t.values
-figures_of (some r) t = t.number ∷ []
+figures_of None t = t.values
+figures_of (Some r) t = t.number ∷ []
 
 -- four figures, 0 where there are fewer
 abbrev pub laid : ℕ → List ℕ → Answer

@@ -2,7 +2,7 @@
 use mathlib.Core.Path.{◌≡◌, refl, ap}
 use mathlib.Core.Bool.{Bool, true, false, cond}
 use mathlib.Core.List.{List, ◌∷◌, ◌++◌}
-use mathlib.Core.Option.{Option, none, some}
+use Rattle.std.proofs.Common.{Option, None, Some}
 use Prim.Native.Nat.{ℕ}
 use native.Mathlib.Omega.{arith}
 use borrow.Author.Tests.{le-leb}
@@ -23,12 +23,12 @@ answered s line lines o e = ap (λ (x : Option Call). (answer_of s x).text ++ an
 
 pub calls_answered : CallsAnswered
 calls_answered s call lines small =
-    answered s (text_of call) lines (some call)
+    answered s (text_of call) lines (Some call)
     (rw (le-leb (length (text_of call)) 32 (omega (arith, texts_fit call small))) ((reads_one_text (text_of call)).1 call refl small))
 
 pub others_answered : OthersAnswered
-others_answered s line lines other = answered s line lines none (go (leb (length line) 32) ((reads_one_text line).2 other))
+others_answered s line lines other = answered s line lines None (go (leb (length line) 32) ((reads_one_text line).2 other))
   where
-    go : (b : Bool) → read_call line ≡ none → cond b (read_call line) none ≡ none
+    go : (b : Bool) → read_call line ≡ None → cond b (read_call line) None ≡ None
     go true e = e
     go false e = refl

@@ -1,6 +1,5 @@
 -- The promises, each a field of one record, over every list of calls from a fresh station unless it says otherwise.
-use Rattle.std.specs.Prelude.{◌≡◌, Bool, not, List, [], ◌∷◌, ◌++◌, ℕ, ◌+◌, ◌%◌, ◌≤◌, ◌<◌}
-use Rattle.std.proofs.Math.Option.{none}
+use Rattle.std.specs.Prelude.{◌≡◌, Bool, not, List, [], ◌∷◌, ◌++◌, ℕ, ◌+◌, ◌%◌, ◌≤◌, ◌<◌, None}
 use Rattle.units.specs.Refusals.{Ground, number_of, first_of}
 use Rattle.units.specs.declared.Refusal.{Refusal}
 use Rattle.units.specs.Charges.{ProductRule}
@@ -77,7 +76,7 @@ pub record Promises : Type 0 where
   pub U2-ties : OrderSaid
   -- U3: an accepted cell is told how many of its flow were accepted before it, and the last slot of its window by its own deadline; no number wraps
   pub U3 :
-      (calls : List Call) (flow deadline : ℕ) → refusal_in (reply_to calls (OfferCell flow deadline)) ≡ none
+      (calls : List Call) (flow deadline : ℕ) → refusal_in (reply_to calls (OfferCell flow deadline)) ≡ None
       → (told (reply_to calls (OfferCell flow deadline))).values ≡ accepted_of (run calls).cells flow ∷ last_in (run calls).cells deadline ∷ []
   pub U3-numbers : (calls : List Call) → CellsNumbered (run calls).cells.accepted
   pub U3-windows : (calls : List Call) → Windowed (run calls).cells.accepted
@@ -93,7 +92,7 @@ pub record Promises : Type 0 where
   -- F1: virtual time is the published one, and an accepted packet is told the published tags
   pub F1-time : (calls : List Call) → (run calls).station.fair.time.0 ≡ virtual_time (run calls).packets.moments
   pub F1 :
-      (calls : List Call) (flow length : ℕ) → refusal_in (reply_to calls (OfferPacket flow length)) ≡ none
+      (calls : List Call) (flow length : ℕ) → refusal_in (reply_to calls (OfferPacket flow length)) ≡ None
       → (told (reply_to calls (OfferPacket flow length))).values
       ≡ packets_of (run calls).packets flow ∷ start_in (run calls).packets flow ∷ finish_tag (run calls).packets flow length ∷ []
   -- F2: begin takes the waiting packet with the smallest start tag, ties to the lowest flow; a flow's packets are begun in the order of their

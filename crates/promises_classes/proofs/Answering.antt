@@ -4,7 +4,7 @@ use mathlib.Core.Path.{◌≡◌, refl, sym, ◌∙◌, ap}
 use mathlib.Core.Bool.{Bool, true, false, cond}
 use mathlib.Core.Logic.{inl, inr}
 use mathlib.Core.List.{List, [], ◌∷◌}
-use mathlib.Core.Option.{Option}
+use Rattle.std.proofs.Common.{Option}
 use Prim.Native.Nat.{ℕ, zero, suc, ◌+◌, ◌≤◌, ◌<◌}
 use native.Mathlib.Omega.{arith}
 use borrow.Author.Tests.{eqb-true, eqb-false, eq-eqb}
@@ -12,7 +12,7 @@ use lib.Dec.{eqb}
 use Rattle.units.specs.Refusals.{first_of, unless}
 use Rattle.units.specs.declared.Refusal.{Refusal}
 use Rattle.units.specs.declared.Tag.{Tag}
-use Rattle.places.specs.Members.{Some}
+use Rattle.places.specs.Members.{Any}
 use Rattle.places.specs.Choice.{at}
 use Rattle.places.proofs.Numbers.{is_this_lem, head_number}
 use Rattle.tags.specs.declared.Packet.{Packet as Place}
@@ -48,7 +48,7 @@ use Rattle.promises_classes.proofs.Runs.{call_good}
 use Rattle.promises_classes.proofs.Noted.{refused_noted}
 
 -- the length found by flow and number is the packet's
-has_length : (f n l s e : ℕ) (ps : List Packet) → PacketsNumbered ps → Some (IsThis f n l s e) ps → length_in ps f n ≡ l
+has_length : (f n l s e : ℕ) (ps : List Packet) → PacketsNumbered ps → Any (IsThis f n l s e) ps → length_in ps f n ≡ l
 unfolding length_in
 has_length f n l s e [] k h = absurd h
 has_length f n l s e (a ∷ rest) k (inl t) = rw (eq-eqb a.flow f t.0, eq-eqb a.number n t.1) t.2

@@ -2,7 +2,7 @@
 use mathlib.Core.Path.{◌≡◌, refl, sym, ◌∙◌, ap}
 use mathlib.Core.Bool.{Bool, true, false, cond, ◌||◌, true≢false}
 use mathlib.Core.List.{List, [], ◌∷◌}
-use mathlib.Core.Option.{Option, none, some}
+use Rattle.std.proofs.Common.{Option, None, Some}
 use Prim.Native.Nat.{ℕ, zero, suc, ◌+◌, ◌*◌, ◌<◌}
 use native.Mathlib.Omega.{arith}
 use borrow.Author.Tests.{eqb-false, lt-leb}
@@ -94,12 +94,12 @@ module _ (p : Plan) (ok : Fits p) (u : Classes) (h : History) (k : TreeKept p u 
   node_after y s = left_node p ok (begin_steps bytes) begin_tops was k.agrees f low y s
 
   -- the classes that they do not hang from keep their times
-  class_else : (c : ℕ) → child_on p c (way_to p f) ≡ none → class_at left c ≡ class_at was c
+  class_else : (c : ℕ) → child_on p c (way_to p f) ≡ None → class_at left c ≡ class_at was c
   unfolding begun_from
   class_else c e = left_else p ok (begin_steps bytes) begin_tops was k.agrees f low c e
 
   -- the others go on to the starts of theirs
-  class_here : (c : ℕ) (z : Child) → child_on p c (way_to p f) ≡ some z → class_at left c ≡ begun_class (node_at was (place_of z)) (class_at was c)
+  class_here : (c : ℕ) (z : Child) → child_on p c (way_to p f) ≡ Some z → class_at left c ≡ begun_class (node_at was (place_of z)) (class_at was c)
   unfolding begun_from
   class_here c z e = left_class p ok (begin_steps bytes) begin_tops was k.agrees f low c z e
 
@@ -115,22 +115,22 @@ module _ (p : Plan) (ok : Fits p) (u : Classes) (h : History) (k : TreeKept p u 
     -- the class goes on to the start of its child
     time_after : (o : Option Child) → child_on p c (way_to p f) ≡ o → (class_at left c).time.0 ≡ virtual_time (sees o)
     unfolding virtual_time
-    time_after none e = ap (λ z. z.time.0) (class_else c e) ∙ fair.time
-    time_after (some z) e =
+    time_after None e = ap (λ z. z.time.0) (class_else c e) ∙ fair.time
+    time_after (Some z) e =
         let w = found_on p c z (way_to p f) e in
         ap (λ v. v.time.0) (class_here c z e) ∙ fair.starts z (sound_hangs p c z (way_sound p ok 4 (a_flow f) z (low, refl) w.0) w.1)
 
     -- its largest finish stays
     largest_after : (o : Option Child) → child_on p c (way_to p f) ≡ o → (class_at left c).largest.0 ≡ largest_ended (sees o)
     unfolding virtual_time
-    largest_after none e = ap (λ z. z.largest.0) (class_else c e) ∙ fair.largest
-    largest_after (some z) e = ap (λ v. v.largest.0) (class_here c z e) ∙ fair.largest
+    largest_after None e = ap (λ z. z.largest.0) (class_else c e) ∙ fair.largest
+    largest_after (Some z) e = ap (λ v. v.largest.0) (class_here c z e) ∙ fair.largest
 
     -- a begin changes no start
     see_start : (x : Child) (o : Option Child) → start_tag (sees o) x ≡ start_tag (seen p c h) x
     unfolding virtual_time
-    see_start x none = refl
-    see_start x (some z) = refl
+    see_start x None = refl
+    see_start x (Some z) = refl
 
     -- so the starts stay
     start_after : (x : Child) → HangsFrom p c x → (node_at left (place_of x)).start.0 ≡ start_tag (sees own) x
@@ -142,13 +142,13 @@ module _ (p : Plan) (ok : Fits p) (u : Classes) (h : History) (k : TreeKept p u 
         go false = refl
 
     -- nor the finish of another child
-    see_finish_else : (x : Child) (o : Option Child) → ((z : Child) → o ≡ some z → same z x ≡ false) → last_finish (sees o) x ≡ last_finish (seen p c h) x
+    see_finish_else : (x : Child) (o : Option Child) → ((z : Child) → o ≡ Some z → same z x ≡ false) → last_finish (sees o) x ≡ last_finish (seen p c h) x
     unfolding virtual_time
-    see_finish_else x none n = refl
-    see_finish_else x (some z) n = rw (n z refl)
+    see_finish_else x None n = refl
+    see_finish_else x (Some z) n = rw (n z refl)
 
     -- the finish of the child that it begins below is its start and the cost
-    see_finish : (x : Child) → last_finish (sees (some x)) x ≡ start_tag (seen p c h) x + bytes * charge_of (weight_of p h x)
+    see_finish : (x : Child) → last_finish (sees (Some x)) x ≡ start_tag (seen p c h) x + bytes * charge_of (weight_of p h x)
     unfolding virtual_time
     see_finish x = rw (same_self x)
 

@@ -2,7 +2,7 @@
 use mathlib.Core.Path.{◌≡◌, refl, sym, ◌∙◌, ap}
 use mathlib.Core.Bool.{Bool, true, false, cond, not}
 use mathlib.Core.List.{List, ◌∷◌}
-use mathlib.Core.Option.{Option, none, some}
+use Rattle.std.proofs.Common.{Option, None, Some}
 use Prim.Native.Nat.{ℕ, ◌<◌, max}
 use native.Mathlib.Omega.{arith}
 use lib.Dec.{eqb}
@@ -51,17 +51,17 @@ module _ (p : Plan) (ok : Fits p) (u : Classes) (h : History) (k : TreeKept p u 
   node_after y s = left_node p ok end_steps end_tops was k.agrees f low y s
 
   -- the classes that they do not hang from keep their times
-  class_else : (c : ℕ) → child_on p c (way_to p f) ≡ none → class_at left c ≡ class_at was c
+  class_else : (c : ℕ) → child_on p c (way_to p f) ≡ None → class_at left c ≡ class_at was c
   unfolding ended_from
   class_else c e = left_else p ok end_steps end_tops was k.agrees f low c e
 
   -- the others take the finishes of theirs
-  class_here : (c : ℕ) (z : Child) → child_on p c (way_to p f) ≡ some z → class_at left c ≡ ended_class (node_at was (place_of z)) (node_at was c) (class_at was c)
+  class_here : (c : ℕ) (z : Child) → child_on p c (way_to p f) ≡ Some z → class_at left c ≡ ended_class (node_at was (place_of z)) (node_at was c) (class_at was c)
   unfolding ended_from
   class_here c z e = left_class p ok end_steps end_tops was k.agrees f low c z e
 
   -- a child that is found on the way hangs from its class
-  found_hangs : (c : ℕ) (z : Child) → child_on p c (way_to p f) ≡ some z → HangsFrom p c z
+  found_hangs : (c : ℕ) (z : Child) → child_on p c (way_to p f) ≡ Some z → HangsFrom p c z
   found_hangs c z e =
       let w = found_on p c z (way_to p f) e in sound_hangs p c z (way_sound p ok 4 (a_flow f) z (low, refl) w.0) w.1
 
@@ -84,8 +84,8 @@ module _ (p : Plan) (ok : Fits p) (u : Classes) (h : History) (k : TreeKept p u 
     -- the class goes on to its largest finish where nothing is left to send
     time_after : (o : Option Child) → child_on p c (way_to p f) ≡ o → (class_at left c).time.0 ≡ virtual_time (sees o)
     unfolding virtual_time
-    time_after none e = ap (λ z. z.time.0) (class_else c e) ∙ fair.time
-    time_after (some z) e =
+    time_after None e = ap (λ z. z.time.0) (class_else c e) ∙ fair.time
+    time_after (Some z) e =
         ap (λ v. v.time.0) (class_here c z e)
         ∙ rw (tells_left p u h k c inside) (go (found_hangs c z e) (eqb (node_at was c).waiting 0))
       where
@@ -98,14 +98,14 @@ module _ (p : Plan) (ok : Fits p) (u : Classes) (h : History) (k : TreeKept p u 
     -- its largest finish takes that of its child
     largest_after : (o : Option Child) → child_on p c (way_to p f) ≡ o → (class_at left c).largest.0 ≡ largest_ended (sees o)
     unfolding virtual_time
-    largest_after none e = ap (λ z. z.largest.0) (class_else c e) ∙ fair.largest
-    largest_after (some z) e = ap (λ v. v.largest.0) (class_here c z e) ∙ largest_is z (found_hangs c z e)
+    largest_after None e = ap (λ z. z.largest.0) (class_else c e) ∙ fair.largest
+    largest_after (Some z) e = ap (λ v. v.largest.0) (class_here c z e) ∙ largest_is z (found_hangs c z e)
 
     -- an end changes no last finish
     see_finish : (x : Child) (o : Option Child) → last_finish (sees o) x ≡ last_finish (seen p c h) x
     unfolding virtual_time
-    see_finish x none = refl
-    see_finish x (some z) = refl
+    see_finish x None = refl
+    see_finish x (Some z) = refl
 
     -- so the last finishes stay
     finish_after : (x : Child) → HangsFrom p c x → (node_at left (place_of x)).finish.0 ≡ last_finish (sees own) x
@@ -117,14 +117,14 @@ module _ (p : Plan) (ok : Fits p) (u : Classes) (h : History) (k : TreeKept p u 
         go false = refl
 
     -- nor the start of another child
-    see_start_else : (x : Child) (o : Option Child) → ((z : Child) → o ≡ some z → same z x ≡ false) → start_tag (sees o) x ≡ start_tag (seen p c h) x
+    see_start_else : (x : Child) (o : Option Child) → ((z : Child) → o ≡ Some z → same z x ≡ false) → start_tag (sees o) x ≡ start_tag (seen p c h) x
     unfolding virtual_time
-    see_start_else x none n = refl
-    see_start_else x (some z) n = rw (n z refl)
+    see_start_else x None n = refl
+    see_start_else x (Some z) n = rw (n z refl)
 
     -- the child that it ends below starts at its last finish, where it has more to send
     see_start : (x : Child) (b : Bool) → sends p h x ≡ not b
-        → start_tag (sees (some x)) x ≡ cond b (start_tag (seen p c h) x) (last_finish (seen p c h) x)
+        → start_tag (sees (Some x)) x ≡ cond b (start_tag (seen p c h) x) (last_finish (seen p c h) x)
     unfolding virtual_time
     see_start x true e = rw (same_self x, e)
     see_start x false e = rw (same_self x, e)

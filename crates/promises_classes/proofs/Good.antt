@@ -8,7 +8,7 @@ use native.Mathlib.Omega.{arith}
 use borrow.Author.Tests.{eqb-true}
 use Rattle.units.specs.Limits.{tag_limit, bad_weight, bad_length}
 use Rattle.units.proofs.Limits.{inside}
-use Rattle.places.specs.Members.{Each, Some}
+use Rattle.places.specs.Members.{Each, Any}
 use Rattle.places.specs.Choice.{at}
 use Rattle.places.proofs.Members.{some_gives, some_both}
 use Rattle.places.proofs.Numbers.{some_below}
@@ -140,7 +140,7 @@ module _ (p : Plan) (ok : Fits p) (u : Classes) (h : History) (g : LaneGood p u 
     begin_next = rw begin_lowest.own (lowest_next g.queue begin_lowest)
 
     -- it was accepted
-    pub begin_there : Some (AtPlace place x) (packets_in h).accepted
+    pub begin_there : Any (AtPlace place x) (packets_in h).accepted
     begin_there = held_there g.queue.kept place x begin_lowest.held
 
     -- with a good length

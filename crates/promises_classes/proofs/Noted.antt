@@ -11,7 +11,7 @@ use lib.Dec.{eqb}
 use Rattle.units.specs.Refusals.{first_of}
 use Rattle.units.specs.declared.Refusal.TheVariants.{TagsUsedUp, PacketInService, NothingWaits}
 use Rattle.units.proofs.Refusals.{after_flow}
-use Rattle.places.specs.Members.{Each, Some}
+use Rattle.places.specs.Members.{Each, Any}
 use Rattle.places.specs.Places.{count}
 use Rattle.places.specs.Choice.{Choice, nothing, at}
 use Rattle.places.proofs.Members.{none_passes, each_map}
@@ -52,7 +52,7 @@ use Rattle.promises_classes.proofs.Good.{Proper, LaneGood, begin_lowest, begin_k
 use Rattle.promises_classes.proofs.Runs.{run_good}
 
 -- a test of the packets of this flow and number is that of the one that there is
-only_this : (test : ℕ → Bool) (f n l s e : ℕ) (ps : List Packet) → PacketsNumbered ps → Some (IsThis f n l s e) ps
+only_this : (test : ℕ → Bool) (f n l s e : ℕ) (ps : List Packet) → PacketsNumbered ps → Any (IsThis f n l s e) ps
     → any_of (λ (a : Packet). is_packet f n a && test a.length) ps ≡ test l
 unfolding any_of
 only_this test f n l s e [] k h = absurd h

@@ -2,7 +2,7 @@
 use mathlib.Core.Path.{◌≡◌, refl, sym, ◌∙◌, ap}
 use mathlib.Core.Bool.{Bool, true, false, cond, not}
 use mathlib.Core.List.{List, ◌∷◌}
-use mathlib.Core.Option.{Option, none, some}
+use Rattle.std.proofs.Common.{Option, None, Some}
 use Prim.Native.Nat.{ℕ, ◌+◌, ◌≤◌, ◌<◌, max}
 use native.Mathlib.Omega.{arith}
 use native.Mathlib.Nat.{mod-eq_of_lt}
@@ -36,8 +36,8 @@ module _ (p : Plan) (h : History) (es : List Seen) where
   -- not the virtual time
   pub see_time : (o : Option Child) → virtual_time (see_offer p h o es) ≡ virtual_time es
   unfolding virtual_time
-  see_time none = refl
-  see_time (some x) = go (sends p h x)
+  see_time None = refl
+  see_time (Some x) = go (sends p h x)
     where
       go : (b : Bool) → virtual_time (cond b es (gets x ∷ es)) ≡ virtual_time es
       go true = refl
@@ -46,8 +46,8 @@ module _ (p : Plan) (h : History) (es : List Seen) where
   -- nor the largest finish
   see_largest : (o : Option Child) → largest_ended (see_offer p h o es) ≡ largest_ended es
   unfolding virtual_time
-  see_largest none = refl
-  see_largest (some x) = go (sends p h x)
+  see_largest None = refl
+  see_largest (Some x) = go (sends p h x)
     where
       go : (b : Bool) → largest_ended (cond b es (gets x ∷ es)) ≡ largest_ended es
       go true = refl
@@ -56,18 +56,18 @@ module _ (p : Plan) (h : History) (es : List Seen) where
   -- nor any last finish
   pub see_finish : (y : Child) (o : Option Child) → last_finish (see_offer p h o es) y ≡ last_finish es y
   unfolding virtual_time
-  see_finish y none = refl
-  see_finish y (some x) = go (sends p h x)
+  see_finish y None = refl
+  see_finish y (Some x) = go (sends p h x)
     where
       go : (b : Bool) → last_finish (cond b es (gets x ∷ es)) y ≡ last_finish es y
       go true = refl
       go false = refl
 
   -- nor the start of another child
-  pub see_start_else : (y : Child) (o : Option Child) → ((z : Child) → o ≡ some z → same z y ≡ false) → start_tag (see_offer p h o es) y ≡ start_tag es y
+  pub see_start_else : (y : Child) (o : Option Child) → ((z : Child) → o ≡ Some z → same z y ≡ false) → start_tag (see_offer p h o es) y ≡ start_tag es y
   unfolding virtual_time
-  see_start_else y none n = refl
-  see_start_else y (some x) n = go (sends p h x) (n x refl)
+  see_start_else y None n = refl
+  see_start_else y (Some x) n = go (sends p h x) (n x refl)
     where
       go : (b : Bool) → same x y ≡ false → start_tag (cond b es (gets x ∷ es)) y ≡ start_tag es y
       go true e = refl
@@ -75,7 +75,7 @@ module _ (p : Plan) (h : History) (es : List Seen) where
 
   -- its own start, where it had nothing to send
   see_start : (y : Child) (b : Bool) → sends p h y ≡ not b
-      → start_tag (see_offer p h (some y) es) y ≡ cond b (max (virtual_time es) (last_finish es y)) (start_tag es y)
+      → start_tag (see_offer p h (Some y) es) y ≡ cond b (max (virtual_time es) (last_finish es y)) (start_tag es y)
   unfolding virtual_time
   see_start y true e = rw (e, same_self y)
   see_start y false e = rw e
@@ -112,8 +112,8 @@ module _ (p : Plan) (ok : Fits p) (u : Classes) (h : History) (k : TreeKept p u 
   -- no class's times are
   class_after : (c : ℕ) (o : Option Child) → child_on p c (way_to p f) ≡ o → class_at left c ≡ class_at was c
   unfolding offered_to
-  class_after c none e = left_else p ok offer_steps offer_tops was k.agrees f low c e
-  class_after c (some z) e = left_class p ok offer_steps offer_tops was k.agrees f low c z e
+  class_after c None e = left_else p ok offer_steps offer_tops was k.agrees f low c e
+  class_after c (Some z) e = left_class p ok offer_steps offer_tops was k.agrees f low c z e
 
   module _ (c : ℕ) (fair : RunsFair p u h c) where
     -- the child of the class on the way

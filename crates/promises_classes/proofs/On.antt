@@ -2,7 +2,7 @@
 use mathlib.Core.Path.{◌≡◌, refl, sym, ◌∙◌, ap}
 use mathlib.Core.Bool.{Bool, true, false, cond, ◌||◌, true≢false, false≢true}
 use mathlib.Core.List.{List, [], ◌∷◌}
-use mathlib.Core.Option.{Option, none, some}
+use Rattle.std.proofs.Common.{Option, None, Some}
 use Prim.Native.Nat.{ℕ}
 use native.Mathlib.Omega.{arith}
 use borrow.Author.Tests.{eqb-true, eq-eqb}
@@ -89,30 +89,30 @@ on_each P [] e x o = absurd (on_none x o)
 on_each P (y ∷ ws) e x o = on_cases x y ws (P x) (λ q. rw q e.0) (λ q r. on_each P ws e.1 x r) o
 
 -- what is found is one thing
-pub some_is : {A : Type 0} (a b : A) → some a ≡ some b → a ≡ b
+pub some_is : {A : Type 0} (a b : A) → Some a ≡ Some b → a ≡ b
 some_is {A} a b e = ap get e
   where
     get : Option A → A
-    get none = a
-    get (some x) = x
+    get None = a
+    get (Some x) = x
 
 -- a child that is found is none that is not on the list
-pub child_else : (p : Plan) (c : ℕ) (y z : Child) (ws : List Child) → child_on p c ws ≡ some z → on y ws ≡ false → same z y ≡ false
+pub child_else : (p : Plan) (c : ℕ) (y z : Child) (ws : List Child) → child_on p c ws ≡ Some z → on y ws ≡ false → same z y ≡ false
 unfolding child_on
 child_else p c y z [] e o = absurd (let q : ◌≡◌ {A = ℕ} 0 1 = cc in omega arith)
 child_else p c y z (x ∷ ws) e o = go (child_else p c y z ws) (eqb (parent_of p x) c) e
   where
-    go : (child_on p c ws ≡ some z → on y ws ≡ false → same z y ≡ false) → (b : Bool) → cond b (some x) (child_on p c ws) ≡ some z → same z y ≡ false
+    go : (child_on p c ws ≡ Some z → on y ws ≡ false → same z y ≡ false) → (b : Bool) → cond b (Some x) (child_on p c ws) ≡ Some z → same z y ≡ false
     go ih true q = rw (sym (some_is x z q)) (same_false y x (off_cases y x ws o).0)
     go ih false q = ih q (off_cases y x ws o).1
 
 -- a child that is found is on the list, and hangs from the class
-pub found_on : (p : Plan) (c : ℕ) (z : Child) (ws : List Child) → child_on p c ws ≡ some z → (on z ws ≡ true) × (parent_of p z ≡ c)
+pub found_on : (p : Plan) (c : ℕ) (z : Child) (ws : List Child) → child_on p c ws ≡ Some z → (on z ws ≡ true) × (parent_of p z ≡ c)
 unfolding child_on
 found_on p c z [] e = absurd (let q : ◌≡◌ {A = ℕ} 0 1 = cc in omega arith)
 found_on p c z (x ∷ ws) e = go (found_on p c z ws) (eqb (parent_of p x) c) refl e
   where
-    go : (child_on p c ws ≡ some z → (on z ws ≡ true) × (parent_of p z ≡ c)) → (b : Bool) → eqb (parent_of p x) c ≡ b
-        → cond b (some x) (child_on p c ws) ≡ some z → (on z (x ∷ ws) ≡ true) × (parent_of p z ≡ c)
+    go : (child_on p c ws ≡ Some z → (on z ws ≡ true) × (parent_of p z ≡ c)) → (b : Bool) → eqb (parent_of p x) c ≡ b
+        → cond b (Some x) (child_on p c ws) ≡ Some z → (on z (x ∷ ws) ≡ true) × (parent_of p z ≡ c)
     go ih true q h = let e = some_is x z h in (on_head z x ws (rw e (same_self z)), rw (sym e) (eqb-true (parent_of p x) c q))
     go ih false q h = (on_more z x ws (ih h).0, (ih h).1)

@@ -3,7 +3,7 @@
 use mathlib.Core.Path.{◌≡◌, refl, sym, ◌∙◌, ap, subst}
 use mathlib.Core.Bool.{Bool, true, false, cond, true≢false}
 use mathlib.Core.List.{List, [], ◌∷◌}
-use mathlib.Core.Option.{Option, none, some}
+use Rattle.std.proofs.Common.{Option, None, Some}
 use Prim.Native.Nat.{ℕ, ◌+◌, ◌*◌, ◌≤◌, ◌<◌}
 use native.Mathlib.Nat.{mul-le-mul_left, mul_comm}
 use native.Mathlib.Omega.{arith}
@@ -68,34 +68,34 @@ module _ (p : Plan) (h : History) (es : List Seen) (x : Child) where
   -- a begin changes no start
   begin_start : (bytes : ℕ) (o : Option Child) → start_tag (see_begin p h bytes o es) x ≡ start_tag es x
   unfolding virtual_time
-  begin_start bytes none = refl
-  begin_start bytes (some z) = refl
+  begin_start bytes None = refl
+  begin_start bytes (Some z) = refl
 
   -- nor the finish of another child
-  begin_finish : (bytes : ℕ) (o : Option Child) → ((z : Child) → o ≡ some z → same z x ≡ false) → last_finish (see_begin p h bytes o es) x ≡ last_finish es x
+  begin_finish : (bytes : ℕ) (o : Option Child) → ((z : Child) → o ≡ Some z → same z x ≡ false) → last_finish (see_begin p h bytes o es) x ≡ last_finish es x
   unfolding virtual_time
-  begin_finish bytes none n = refl
-  begin_finish bytes (some z) n = rw (n z refl)
+  begin_finish bytes None n = refl
+  begin_finish bytes (Some z) n = rw (n z refl)
 
   -- an end changes no finish
   end_finish : (c : ℕ) (o : Option Child) → last_finish (see_end p h c o es) x ≡ last_finish es x
   unfolding virtual_time
-  end_finish c none = refl
-  end_finish c (some z) = refl
+  end_finish c None = refl
+  end_finish c (Some z) = refl
 
   -- nor the start of another child
-  end_start : (c : ℕ) (o : Option Child) → ((z : Child) → o ≡ some z → same z x ≡ false) → start_tag (see_end p h c o es) x ≡ start_tag es x
+  end_start : (c : ℕ) (o : Option Child) → ((z : Child) → o ≡ Some z → same z x ≡ false) → start_tag (see_end p h c o es) x ≡ start_tag es x
   unfolding virtual_time
-  end_start c none n = refl
-  end_start c (some z) n = rw (n z refl)
+  end_start c None n = refl
+  end_start c (Some z) n = rw (n z refl)
 
 module _ (p : Plan) (ok : Fits p) (h : History) (g number bytes : ℕ) (known : g < 16) where
   -- a flow's class finds the flow on its way
-  own : child_on p (class_in p g) (way_to p g) ≡ some (a_flow g)
+  own : child_on p (class_in p g) (way_to p g) ≡ Some (a_flow g)
   own = child_here p ok 4 (a_flow g) (a_flow g) (known, refl) (head_on p 4 (a_flow g) (reaches p ok g known))
 
   -- and no other flow
-  aside : (f : ℕ) → f < 16 → (g ≡ f → ⊥) → (z : Child) → child_on p (class_in p f) (way_to p g) ≡ some z → same z (a_flow f) ≡ false
+  aside : (f : ℕ) → f < 16 → (g ≡ f → ⊥) → (z : Child) → child_on p (class_in p f) (way_to p g) ≡ Some z → same z (a_flow f) ≡ false
   aside f l n z q =
       child_else p (class_in p f) (a_flow f) z (way_to p g) q (sym (below_on p (a_flow f) g (l, refl)) ∙ ne_eqb f g (λ e. n (sym e)))
 
@@ -104,7 +104,7 @@ module _ (p : Plan) (ok : Fits p) (h : History) (g number bytes : ℕ) (known : 
     module _ (others : (i : ℕ) → (g ≡ i → ⊥) → waiting_in (packets_in (accepted g number bytes ∷ h)) i ≡ waiting_in (packets_in h) i) where
       -- the flow starts no earlier than its last finish
       late_offer : serving (packets_in h).moments g ≡ false
-          → finish_of p h g ≤ start_tag (see_offer p h (some (a_flow g)) (seen p (class_in p g) h)) (a_flow g)
+          → finish_of p h g ≤ start_tag (see_offer p h (Some (a_flow g)) (seen p (class_in p g) h)) (a_flow g)
       unfolding virtual_time
       late_offer s = go (sends p h (a_flow g)) refl
         where
@@ -138,7 +138,7 @@ module _ (p : Plan) (ok : Fits p) (h : History) (g number bytes : ℕ) (known : 
         (some_bytes : 1 ≤ bytes) (weighs : bad_weight (weight_in (packets_in h) g) ≡ false)
         (fits : start_of p h g + bytes * charge_of (weight_in (packets_in h) g) ≤ tag_limit) where
       -- its finish is its start and the cost
-      finish_here : last_finish (see_begin p h bytes (some (a_flow g)) (seen p (class_in p g) h)) (a_flow g)
+      finish_here : last_finish (see_begin p h bytes (Some (a_flow g)) (seen p (class_in p g) h)) (a_flow g)
           ≡ start_of p h g + bytes * charge_of (weight_in (packets_in h) g)
       unfolding virtual_time
       finish_here = rw (same_self (a_flow g))
@@ -188,7 +188,7 @@ module _ (p : Plan) (ok : Fits p) (h : History) (g number bytes : ℕ) (known : 
     module _ (serves : serving (packets_in h).moments g ≡ true) where
       -- with more to send the flow starts at its last finish
       late_end : 0 < waiting_in (packets_in h) g
-          → finish_of p h g ≤ start_tag (see_end p h (class_in p g) (some (a_flow g)) (seen p (class_in p g) h)) (a_flow g)
+          → finish_of p h g ≤ start_tag (see_end p h (class_in p g) (Some (a_flow g)) (seen p (class_in p g) h)) (a_flow g)
       unfolding virtual_time
       late_end w = rw (same_self (a_flow g), flow_sends p h g known w) (omega arith)
 

@@ -3,7 +3,7 @@
 use mathlib.Core.Path.{◌≡◌, refl, sym, ◌∙◌, ap}
 use mathlib.Core.Bool.{Bool, true, false, cond}
 use mathlib.Core.List.{List, [], ◌∷◌}
-use mathlib.Core.Option.{none, some}
+use Rattle.std.proofs.Common.{None, Some}
 use Prim.Native.Nat.{ℕ, zero, suc, ◌≤◌, ◌<◌}
 use native.Mathlib.Omega.{arith}
 use borrow.Author.Tests.{eqb-false}
@@ -103,18 +103,18 @@ module _ (p : Plan) (ok : Fits p) {step : Tree → ℕ → ℕ → Tree} {node :
 
   -- the rest of a way leaves the times of a class that finds no child on it, if the way from there does
   rest_else : (c n : ℕ) (x : Child) → Sound p x
-      → ((x : Child) → Sound p x → (t : Tree) → child_on p c (way_from n p x) ≡ none → class_at (ups p step top (way_from n p x) t) c ≡ class_at t c)
-      → (t : Tree) → child_on p c (rest p n x) ≡ none → class_at (ups p step top (rest p n x) t) c ≡ class_at t c
+      → ((x : Child) → Sound p x → (t : Tree) → child_on p c (way_from n p x) ≡ None → class_at (ups p step top (way_from n p x) t) c ≡ class_at t c)
+      → (t : Tree) → child_on p c (rest p n x) ≡ None → class_at (ups p step top (rest p n x) t) c ≡ class_at t c
   unfolding ups
   rest_else c n x s ih t = go (eqb (parent_of p x) 0) refl
     where
-      go : (b : Bool) → eqb (parent_of p x) 0 ≡ b → child_on p c (cond b [] (way_from n p (a_class (parent_of p x)))) ≡ none
+      go : (b : Bool) → eqb (parent_of p x) 0 ≡ b → child_on p c (cond b [] (way_from n p (a_class (parent_of p x)))) ≡ None
           → class_at (ups p step top (cond b [] (way_from n p (a_class (parent_of p x)))) t) c ≡ class_at t c
       go true q h = top_class t c
       go false q h = ih (a_class (parent_of p x)) (up_sound p ok x s (eqb-false (parent_of p x) 0 q)) t h
 
   -- a class that finds no child on the way keeps its times
-  class_else : (c n : ℕ) (x : Child) → Sound p x → (t : Tree) → child_on p c (way_from n p x) ≡ none
+  class_else : (c n : ℕ) (x : Child) → Sound p x → (t : Tree) → child_on p c (way_from n p x) ≡ None
       → class_at (ups p step top (way_from n p x) t) c ≡ class_at t c
   unfolding way_from ups child_on
   class_else c zero x s t e = top_class t c
@@ -123,8 +123,8 @@ module _ (p : Plan) (ok : Fits p) {step : Tree → ℕ → ℕ → Tree} {node :
       t1 : Tree
       t1 = step t (place_of x) (parent_of p x)
 
-      go : (child_on p c (rest p n x) ≡ none → class_at (ups p step top (rest p n x) t1) c ≡ class_at t1 c) → (b : Bool)
-          → eqb (parent_of p x) c ≡ b → cond b (some x) (child_on p c (rest p n x)) ≡ none → class_at (ups p step top (rest p n x) t1) c ≡ class_at t c
+      go : (child_on p c (rest p n x) ≡ None → class_at (ups p step top (rest p n x) t1) c ≡ class_at t1 c) → (b : Bool)
+          → eqb (parent_of p x) c ≡ b → cond b (Some x) (child_on p c (rest p n x)) ≡ None → class_at (ups p step top (rest p n x) t1) c ≡ class_at t c
       go ih true q h = absurd (let z : ◌≡◌ {A = ℕ} 0 1 = cc in omega arith)
       go ih false q h = ih h ∙ steps.others t (place_of x) (parent_of p x) c (λ e. eqb-false (parent_of p x) c q (sym e))
 
@@ -201,11 +201,11 @@ module _ (p : Plan) (ok : Fits p) {step : Tree → ℕ → ℕ → Tree} {node :
         ∙ ups_else j (λ z. z) (not_free p ok j l m) (λ v b. tops.others v j (omega (arith, l, ok.rooted))) 4 (a_flow f) (low, refl) t a
 
     -- the times of a class that no child on the way hangs from stay
-    pub left_else : (c : ℕ) → child_on p c (way_to p f) ≡ none → class_at climbed c ≡ class_at t c
+    pub left_else : (c : ℕ) → child_on p c (way_to p f) ≡ None → class_at climbed c ≡ class_at t c
     left_else c e = ap (λ z. class_at z c) along ∙ class_else c 4 (a_flow f) (low, refl) t e
 
     -- those of any other are written
-    pub left_class : (c : ℕ) (z : Child) → child_on p c (way_to p f) ≡ some z
+    pub left_class : (c : ℕ) (z : Child) → child_on p c (way_to p f) ≡ Some z
         → class_at climbed c ≡ class (node_at t (place_of z)) (node_at t c) (class_at t c)
     left_class c z e =
         let w = found_on p c z (way_to p f) e in

@@ -3,7 +3,7 @@
 use mathlib.Core.Path.{◌≡◌, refl, sym, ◌∙◌, ap}
 use mathlib.Core.Bool.{Bool, true, false, cond, true≢false, false≢true}
 use mathlib.Core.List.{List, [], ◌∷◌}
-use mathlib.Core.Option.{Option, none, some}
+use Rattle.std.proofs.Common.{Option, None, Some}
 use Prim.Native.Nat.{ℕ, ◌+◌, ◌≤◌, ◌<◌, max}
 use native.Mathlib.Omega.{arith}
 use borrow.Author.Tests.{ltb-false, eqb-true}
@@ -82,12 +82,12 @@ module _ (p : Plan) (ok : Fits p) (h : History) (k : TimesKept p h) (f number by
   own c = child_on p c (way_to p f)
 
   -- it is on the way, and hangs from the class
-  own_hangs : (c : ℕ) (z : Child) → child_on p c (way_to p f) ≡ some z → (on z (way_to p f) ≡ true) × HangsFrom p c z
+  own_hangs : (c : ℕ) (z : Child) → child_on p c (way_to p f) ≡ Some z → (on z (way_to p f) ≡ true) × HangsFrom p c z
   own_hangs c z q =
       let w = found_on p c z (way_to p f) q in (w.0, sound_hangs p c z (way_sound p ok 4 (a_flow f) z (low, refl) w.0) w.1)
 
   -- and a child on the way is that of its class
-  own_is : (c : ℕ) (x : Child) → HangsFrom p c x → on x (way_to p f) ≡ true → child_on p c (way_to p f) ≡ some x
+  own_is : (c : ℕ) (x : Child) → HangsFrom p c x → on x (way_to p f) ≡ true → child_on p c (way_to p f) ≡ Some x
   own_is c x g o = rw (hangs_parent p c x g) at (child_here p ok 4 (a_flow f) x (low, refl) o)
 
   -- An offer.
@@ -103,7 +103,7 @@ module _ (p : Plan) (ok : Fits p) (h : History) (k : TimesKept p h) (f number by
 
     -- what is on the way starts no earlier than the virtual time
     here_offer : (c : ℕ) (x : Child) → HangsFrom p c x → served p (packets_in h).moments x ≡ false
-        → virtual_time (seen p c h) ≤ start_tag (see_offer p h (some x) (seen p c h)) x
+        → virtual_time (seen p c h) ≤ start_tag (see_offer p h (Some x) (seen p c h)) x
     unfolding virtual_time
     here_offer c x g n = go (sends p h x) refl
       where
@@ -156,22 +156,22 @@ module _ (p : Plan) (ok : Fits p) (h : History) (k : TimesKept p h) (f number by
     -- the class goes on to the start of its child, which is no earlier
     time_begin : (c : ℕ) (o : Option Child) → child_on p c (way_to p f) ≡ o → virtual_time (seen p c h) ≤ virtual_time (see_begin p h bytes o (seen p c h))
     unfolding virtual_time
-    time_begin c none q = omega arith
-    time_begin c (some z) q = let w = own_hangs c z q in k.starts c z w.1 (first z w.0).0 (idle_begin z)
+    time_begin c None q = omega arith
+    time_begin c (Some z) q = let w = own_hangs c z q in k.starts c z w.1 (first z w.0).0 (idle_begin z)
 
     -- whatever has something to send starts no earlier than the child that goes first
     start_begin : (c : ℕ) (x : Child) → HangsFrom p c x → sends p h x ≡ true → (o : Option Child) → child_on p c (way_to p f) ≡ o
         → virtual_time (see_begin p h bytes o (seen p c h)) ≤ start_tag (see_begin p h bytes o (seen p c h)) x
     unfolding virtual_time
-    start_begin c x g e none q = k.starts c x g e (idle_begin x)
-    start_begin c x g e (some z) q =
+    start_begin c x g e None q = k.starts c x g e (idle_begin x)
+    start_begin c x g e (Some z) q =
         let w = own_hangs c z q in
         let up = hangs_parent p c z w.1 in
         let b = rw up at ((first z w.0).1 x (rw up g) e) in
         ltb-false (start_tag (seen p c h) x) (start_tag (seen p c h) z) (neither_told (ltb (start_tag (seen p c h) x) (start_tag (seen p c h) z)) _ b).0
 
     -- the child that it begins below finishes no earlier than it starts
-    finish_begin : (c : ℕ) (x : Child) → virtual_time (see_begin p h bytes (some x) (seen p c h)) ≤ last_finish (see_begin p h bytes (some x) (seen p c h)) x
+    finish_begin : (c : ℕ) (x : Child) → virtual_time (see_begin p h bytes (Some x) (seen p c h)) ≤ last_finish (see_begin p h bytes (Some x) (seen p c h)) x
     unfolding virtual_time
     finish_begin c x = rw (same_self x) (omega arith)
 
@@ -202,8 +202,8 @@ module _ (p : Plan) (ok : Fits p) (h : History) (k : TimesKept p h) (f number by
     -- the class stays, or goes on to a finish that is no earlier
     time_end : (c : ℕ) (o : Option Child) → child_on p c (way_to p f) ≡ o → virtual_time (seen p c h) ≤ virtual_time (see_end p h c o (seen p c h))
     unfolding virtual_time
-    time_end c none q = omega arith
-    time_end c (some z) q = go (sends p h (a_class c))
+    time_end c None q = omega arith
+    time_end c (Some z) q = go (sends p h (a_class c))
       where
         go : (b : Bool) → virtual_time (seen p c h) ≤ cond b (virtual_time (seen p c h)) (max (last_finish (seen p c h) z) (largest_ended (seen p c h)))
         go true = omega arith
@@ -213,12 +213,12 @@ module _ (p : Plan) (ok : Fits p) (h : History) (k : TimesKept p h) (f number by
     start_end : (c : ℕ) (x : Child) → HangsFrom p c x → sends p h x ≡ true → (o : Option Child) → child_on p c (way_to p f) ≡ o → (b : Bool)
         → on x (way_to p f) ≡ b → virtual_time (see_end p h c o (seen p c h)) ≤ start_tag (see_end p h c o (seen p c h)) x
     unfolding virtual_time
-    start_end c x g e none q true r = absurd (let d = own_is c x g r in let z : ◌≡◌ {A = ℕ} 0 1 = cc in omega arith)
-    start_end c x g e none q false r = k.starts c x g e (serving_end x ∙ r)
-    start_end c x g e (some z) q true r =
+    start_end c x g e None q true r = absurd (let d = own_is c x g r in let z : ◌≡◌ {A = ℕ} 0 1 = cc in omega arith)
+    start_end c x g e None q false r = k.starts c x g e (serving_end x ∙ r)
+    start_end c x g e (Some z) q true r =
         let i : z ≡ x = some_is z x (sym q ∙ own_is c x g r) in
         rw (sends_up p ok c h x g e, i, same_self x, e) (k.finishes c x g (serving_end x ∙ r))
-    start_end c x g e (some z) q false r =
+    start_end c x g e (Some z) q false r =
         rw (sends_up p ok c h x g e, child_else p c x z (way_to p f) q r) (k.starts c x g e (serving_end x ∙ r))
 
     -- at an end no virtual time falls

@@ -4,7 +4,7 @@ use mathlib.Core.Path.{◌≡◌, refl, sym, ◌∙◌, ap}
 use mathlib.Core.Bool.{Bool, true, false, cond}
 use mathlib.Core.Logic.{◌⊎◌, inl, inr}
 use mathlib.Core.List.{List, []}
-use mathlib.Core.Option.{Option, none, some}
+use Rattle.std.proofs.Common.{Option, None, Some}
 use Prim.Native.Nat.{ℕ, zero, suc, ◌≤◌, ◌<◌}
 use native.Mathlib.Omega.{arith}
 use borrow.Author.Tests.{eqb-true, eqb-false, eq-eqb, ne_eqb}
@@ -83,30 +83,30 @@ module _ (p : Plan) (ok : Fits p) where
       go false q = refl
 
   -- a child on a way is the one that its class finds on it
-  pub child_here : (n : ℕ) (x y : Child) → Sound p x → on y (way_from n p x) ≡ true → child_on p (parent_of p y) (way_from n p x) ≡ some y
+  pub child_here : (n : ℕ) (x y : Child) → Sound p x → on y (way_from n p x) ≡ true → child_on p (parent_of p y) (way_from n p x) ≡ Some y
   unfolding way_from child_on
   child_here zero x y s o = absurd (on_none y o)
   child_here (suc n) x y s o =
-      on_cases y x (rest p n x) (cond (eqb (parent_of p x) (parent_of p y)) (some x) (child_on p (parent_of p y) (rest p n x)) ≡ some y)
+      on_cases y x (rest p n x) (cond (eqb (parent_of p x) (parent_of p y)) (Some x) (child_on p (parent_of p y) (rest p n x)) ≡ Some y)
       (λ e. rw (e, eq-eqb (parent_of p x) (parent_of p x) refl))
       (λ q r.
       let l = falls n x y s r in
       let ne : parent_of p x ≡ parent_of p y → ⊥ = λ e. omega (arith, l, e) in
       rw (ne_eqb (parent_of p x) (parent_of p y) ne) (go (child_here n) (eqb (parent_of p x) 0) refl r)) o
     where
-      go : ((x y : Child) → Sound p x → on y (way_from n p x) ≡ true → child_on p (parent_of p y) (way_from n p x) ≡ some y)
+      go : ((x y : Child) → Sound p x → on y (way_from n p x) ≡ true → child_on p (parent_of p y) (way_from n p x) ≡ Some y)
           → (b : Bool) → eqb (parent_of p x) 0 ≡ b → on y (cond b [] (way_from n p (a_class (parent_of p x)))) ≡ true
-          → child_on p (parent_of p y) (cond b [] (way_from n p (a_class (parent_of p x)))) ≡ some y
+          → child_on p (parent_of p y) (cond b [] (way_from n p (a_class (parent_of p x)))) ≡ Some y
       go ih true q r = absurd (on_none y r)
       go ih false q r = ih (a_class (parent_of p x)) y (up_sound x s (eqb-false (parent_of p x) 0 q)) r
 
   -- no class finds a child on the rest of a way from it
-  pub none_further : (n : ℕ) (x : Child) → Sound p x → child_on p (parent_of p x) (rest p n x) ≡ none
+  pub none_further : (n : ℕ) (x : Child) → Sound p x → child_on p (parent_of p x) (rest p n x) ≡ None
   none_further n x s = go (child_on p (parent_of p x) (rest p n x)) refl
     where
-      go : (o : Option Child) → child_on p (parent_of p x) (rest p n x) ≡ o → o ≡ none
-      go none q = refl
-      go (some z) q =
+      go : (o : Option Child) → child_on p (parent_of p x) (rest p n x) ≡ o → o ≡ None
+      go None q = refl
+      go (Some z) q =
           let w = found_on p (parent_of p x) z (rest p n x) q in
           let l = falls n x z s w.0 in
           absurd (omega (arith, l, w.1))

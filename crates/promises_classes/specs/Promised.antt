@@ -2,7 +2,7 @@
 -- queue is in promises_queue.
 use Rattle.std.specs.Prelude.{◌≡◌, true, false, cond, ℕ, zero, suc, ◌+◌, ◌<◌}
 use Rattle.units.specs.declared.Tag.{Tag}
-use Rattle.places.specs.Members.{Each, Some}
+use Rattle.places.specs.Members.{Each, Any}
 use Rattle.plans.specs.declared.Plan.{Plan}
 use Rattle.plans.specs.Plans.{class_in}
 use Rattle.tree.specs.Tree.{node_of, node_at, class_at}
@@ -42,7 +42,7 @@ pub record Settled (p : Plan) (h : History) (flow number length : ℕ) (start : 
   pub known : flow < 16
   pub way : Each (GoesFirst p h) (way_to p flow)
   pub packet :
-      Some (λ (a : Packet). (waits (packets_in h) a ≡ true) × (a.flow ≡ flow) × (a.number ≡ number) × (a.length ≡ length))
+      Any (λ (a : Packet). (waits (packets_in h) a ≡ true) × (a.flow ≡ flow) × (a.number ≡ number) × (a.length ≡ length))
       (packets_in h).accepted
   pub lowest : number ≡ begun_of (packets_in h).moments flow
   pub start_told : start.0 ≡ start_tag (seen p (class_in p flow) h) (a_flow flow)

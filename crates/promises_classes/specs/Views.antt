@@ -1,6 +1,5 @@
 -- What each class of a tree sees of the calls and answers.
-use Rattle.std.specs.Prelude.{◌≡◌, Bool, false, cond, ◌&&◌, ◌||◌, List, [], ◌∷◌, ℕ, zero, suc, ◌*◌, ◌<◌, eqb, ltb}
-use Rattle.std.proofs.Math.Option.{Option, none, some}
+use Rattle.std.specs.Prelude.{◌≡◌, Bool, false, cond, ◌&&◌, ◌||◌, List, [], ◌∷◌, ℕ, zero, suc, ◌*◌, ◌<◌, eqb, ltb, Option, None, Some}
 use Rattle.units.specs.Charges.{charge_of}
 use Rattle.plans.specs.declared.Plan.{Plan}
 use Rattle.plans.specs.Numbered.{any_from}
@@ -51,21 +50,21 @@ sends p h x = any_from (λ f. below p x f && ltb 0 (waiting_in (packets_in h) f)
 
 -- the child of a class that is on a way, if any is
 unfoldable pub child_on : Plan → ℕ → List Child → Option Child
-child_on p c [] = none
-child_on p c (x ∷ xs) = cond (eqb (parent_of p x) c) (some x) (child_on p c xs)
+child_on p c [] = None
+child_on p c (x ∷ xs) = cond (eqb (parent_of p x) c) (Some x) (child_on p c xs)
 
 -- a packet accepted, begun or ended, as a class sees it: by its child on the way, and not at all where there is none
 abbrev pub see_offer : Plan → History → Option Child → List Seen → List Seen
-see_offer p h none es = es
-see_offer p h (some x) es = cond (sends p h x) es (gets x ∷ es)
+see_offer p h None es = es
+see_offer p h (Some x) es = cond (sends p h x) es (gets x ∷ es)
 
 abbrev pub see_begin : Plan → History → ℕ → Option Child → List Seen → List Seen
-see_begin p h length none es = es
-see_begin p h length (some x) es = begins x (length * charge_of (weight_of p h x)) ∷ es
+see_begin p h length None es = es
+see_begin p h length (Some x) es = begins x (length * charge_of (weight_of p h x)) ∷ es
 
 abbrev pub see_end : Plan → History → ℕ → Option Child → List Seen → List Seen
-see_end p h c none es = es
-see_end p h c (some x) es = ends x (sends p h x) (sends p h (a_class c)) ∷ es
+see_end p h c None es = es
+see_end p h c (Some x) es = ends x (sends p h x) (sends p h (a_class c)) ∷ es
 
 -- what a class sees
 unfoldable pub seen : Plan → ℕ → History → List Seen

@@ -2,7 +2,7 @@
 use mathlib.Core.Path.{◌≡◌, sym, ◌∙◌}
 use mathlib.Core.Bool.{Bool, true, false, cond, ◌||◌}
 use mathlib.Core.List.{[], ◌∷◌}
-use mathlib.Core.Option.{none}
+use Rattle.std.proofs.Common.{None}
 use Prim.Native.Nat.{ℕ, ◌≤◌, max}
 use native.Mathlib.Nat.{le_refl}
 use native.Mathlib.Omega.{arith}
@@ -35,12 +35,12 @@ use Rattle.promises_fair.proofs.Ceased.{InService, in_service}
 use Rattle.promises_fair.proofs.Good.{Good, queue_good}
 
 -- F1: what an accepted offer is told
-pub offer_told : (u : Fair) (h : Packets) → Good u h → (flow length : ℕ) → refusal_in (offer_of u flow length).answer ≡ none
+pub offer_told : (u : Fair) (h : Packets) → Good u h → (flow length : ℕ) → refusal_in (offer_of u flow length).answer ≡ None
     → (told (offer_of u flow length).answer).values ≡ accepted_of h flow ∷ start_in h flow ∷ finish_tag h flow length ∷ []
 offer_told u h g flow length =
     let k = g.kept in
     offer_cases u
-    (λ d. refusal_in d.answer ≡ none → (told d.answer).values ≡ accepted_of h flow ∷ start_in h flow ∷ finish_tag h flow length ∷ [])
+    (λ d. refusal_in d.answer ≡ None → (told d.answer).values ≡ accepted_of h flow ∷ start_in h flow ∷ finish_tag h flow length ∷ [])
     (λ r e. absurd (none_is_none r (sym e))) flow length
     (λ low o good room fits few e. rw (k.queue.next flow (omega arith), finish_told k flow low length, start_told_lem k flow low))
 

@@ -10,7 +10,7 @@ use native.Mathlib.Omega.{arith}
 use borrow.Author.Tests.{eqb-true, eq-eqb}
 use lib.Dec.{eqb}
 use Rattle.places.specs.Places.{bit, count}
-use Rattle.places.specs.Members.{Each, Some}
+use Rattle.places.specs.Members.{Each, Any}
 use Rattle.places.specs.Numbers.{of_flow}
 use Rattle.places.proofs.Numbers.{is_this_lem, head_number}
 use Rattle.promises_queue.specs.Packets.{Packet, its_flow, its_number, is_packet, finish_in}
@@ -164,7 +164,7 @@ found P f n (a ∷ rest) k l e = go (λ b. found P f n rest k.1 b e.1) (dec_lt n
     go i (no b) = here (newest f n a rest b l)
 
 -- the start tag found by flow and number is the packet's
-pub has_start : (f n l s e : ℕ) (ps : List Packet) → PacketsNumbered ps → Some (IsThis f n l s e) ps → start_noted ps f n ≡ s
+pub has_start : (f n l s e : ℕ) (ps : List Packet) → PacketsNumbered ps → Any (IsThis f n l s e) ps → start_noted ps f n ≡ s
 unfolding start_noted
 has_start f n l s e [] k h = absurd h
 has_start f n l s e (a ∷ rest) k (inl t) = rw (eq-eqb a.flow f t.0, eq-eqb a.number n t.1) t.3

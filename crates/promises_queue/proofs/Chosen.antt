@@ -11,7 +11,7 @@ use borrow.Author.Tests.{eqb-true, lt-ltb, le-ltb, ltb-false, not-true}
 use lib.Dec.{ltb, eqb}
 use lib.ListN.{length}
 use Rattle.units.specs.Limits.{place_count}
-use Rattle.places.specs.Members.{Some}
+use Rattle.places.specs.Members.{Any}
 use Rattle.places.specs.Places.{flow_of}
 use Rattle.places.specs.Numbers.{of_flow}
 use Rattle.places.specs.Choice.{Key, comes_before, at, Leads}
@@ -100,7 +100,7 @@ module _ {q : Queue} {marks : List Mark} {ps : List Packet} {ms : List Moment} (
         some_asked is_held place_facts packet_facts free_packet q.packets ps (not_begun ms) (packets_tied k) place p held.0 held.1 held.2 (asking ask)
 
     -- it is one of the accepted packets, and waits
-    held_waits : Some (WaitsAt ms place p) ps
+    held_waits : Any (WaitsAt ms place p) ps
     held_waits =
         some_map (λ (a : Packet). (alike (packet_facts a) (place_facts place p) && not_begun ms a) ≡ true) (WaitsAt ms place p)
         (λ a t.
@@ -109,7 +109,7 @@ module _ {q : Queue} {marks : List Mark} {ps : List Packet} {ms : List Moment} (
         ps (some_passes _ ps (held_asked (λ f n l s e. alike (f, n, l, s, e) (place_facts place p)) (alike_self (place_facts place p))))
 
     -- in its two parts: it is accepted, and it is not begun
-    pub held_there : Some (AtPlace place p) ps
+    pub held_there : Any (AtPlace place p) ps
     held_there = some_map (WaitsAt ms place p) (AtPlace place p) (λ a w. w.1) ps held_waits
 
     -- its flow and number are not those of a packet begun
@@ -149,7 +149,7 @@ module _ {q : Queue} {marks : List Mark} {ps : List Packet} {ms : List Moment} (
     module _
         (t : Ordered ps ms)
         (older : begun_of ms (place_flow place) < p.number
-        → Some (Older rank (place_flow place) (begun_of ms (place_flow place)) (rank p.start.0 p.finish.0)) ps) where
+        → Any (Older rank (place_flow place) (begun_of ms (place_flow place)) (rank p.start.0 p.finish.0)) ps) where
       -- the flow's first packet not begun, if its number is smaller, would come before it
       not_older : begun_of ms (place_flow place) < p.number
           → (b : Packet) → Older rank (place_flow place) (begun_of ms (place_flow place)) (rank p.start.0 p.finish.0) b

@@ -8,7 +8,7 @@ use Prim.Native.Nat.{ℕ, ◌<◌}
 use native.Mathlib.Omega.{arith}
 use borrow.Author.Tests.{eq-eqb}
 use Rattle.places.specs.Places.{count}
-use Rattle.places.specs.Members.{Some}
+use Rattle.places.specs.Members.{Any}
 use Rattle.places.specs.Numbers.{of_flow}
 use Rattle.places.proofs.Numbers.{is_this_lem, head_number, head_count}
 use Rattle.promises_queue.specs.Packets.{Packet, its_flow, its_number, is_packet, finish_in}
@@ -20,14 +20,14 @@ IsThis f n l s e a = (a.flow ≡ f) × (a.number ≡ n) × (a.length ≡ l) × (
 
 module _ (f n l s e : ℕ) where
   -- a packet's number is below the count of its flow
-  pub has_number : (ps : List Packet) → PacketsNumbered ps → Some (IsThis f n l s e) ps → n < of_flow its_flow f ps
+  pub has_number : (ps : List Packet) → PacketsNumbered ps → Any (IsThis f n l s e) ps → n < of_flow its_flow f ps
   unfolding count
   has_number [] k h = absurd h
   has_number (a ∷ rest) k (inl t) = omega (arith, t.1, head_number its_flow its_number f a rest k t.0, head_count its_flow its_number f a rest t.0)
   has_number (a ∷ rest) k (inr h) = omega (arith, has_number rest k.1 h)
 
   -- the finish tag found by flow and number is the packet's
-  pub has_finish : (ps : List Packet) → PacketsNumbered ps → Some (IsThis f n l s e) ps → finish_in ps f n ≡ e
+  pub has_finish : (ps : List Packet) → PacketsNumbered ps → Any (IsThis f n l s e) ps → finish_in ps f n ≡ e
   unfolding finish_in
   has_finish [] k h = absurd h
   has_finish (a ∷ rest) k (inl t) = rw (eq-eqb a.flow f t.0, eq-eqb a.number n t.1) t.4

@@ -2,7 +2,7 @@
 use Rattle.std.specs.Prelude.{◌≡◌, Bool, true, false, ◌&&◌, ◌||◌, List, [], ◌∷◌, ℕ, ◌+◌, eqb}
 use Rattle.units.specs.Limits.{place_count}
 use Rattle.units.specs.Charges.{charge_of}
-use Rattle.places.specs.Members.{Each, Some}
+use Rattle.places.specs.Members.{Each, Any}
 use Rattle.places.specs.Marks.{open_in}
 use Rattle.places.specs.Numbers.{of_flow, Numbered}
 use Rattle.places.specs.Places.{bit, count, count_at, flow_of}
@@ -34,7 +34,7 @@ packet_key rank a = record { rank = rank a.start a.finish; flow = a.flow; number
 -- before it by rank, flow and number.
 abbrev pub FirstBy : Rank → Packets → Answer → Type 0
 FirstBy rank h (Begun flow number length start) =
-    Some
+    Any
     (λ (a : Packet).
     (waits h a ≡ true)
     × (a.flow ≡ flow)

@@ -2,7 +2,7 @@
 use mathlib.Core.Path.{◌≡◌, refl, ap}
 use mathlib.Core.Bool.{Bool, true, false, cond}
 use mathlib.Core.List.{List, ◌∷◌, ◌++◌}
-use mathlib.Core.Option.{Option, none, some}
+use Rattle.std.proofs.Common.{Option, None, Some}
 use Prim.Native.Nat.{ℕ}
 use native.Mathlib.Omega.{arith}
 use borrow.Author.Tests.{le-leb}
@@ -24,12 +24,12 @@ answered d line lines o e = ap (λ (x : Option Command). line_of (answer_of d x)
 
 pub commands_answered : CommandsAnswered
 commands_answered d command lines small =
-    answered d (text_of command) lines (some command)
+    answered d (text_of command) lines (Some command)
     (rw (le-leb (length (text_of command)) 32 (omega (arith, texts_fit command small))) ((reads_one_text (text_of command)).1 command refl small))
 
 pub others_answered : OthersAnswered
-others_answered d line lines other = answered d line lines none (go (leb (length line) 32) ((reads_one_text line).2 other))
+others_answered d line lines other = answered d line lines None (go (leb (length line) 32) ((reads_one_text line).2 other))
   where
-    go : (b : Bool) → read_command line ≡ none → cond b (read_command line) none ≡ none
+    go : (b : Bool) → read_command line ≡ None → cond b (read_command line) None ≡ None
     go true e = e
     go false e = refl

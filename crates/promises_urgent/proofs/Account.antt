@@ -2,7 +2,7 @@
 use mathlib.Core.Path.{◌≡◌, refl, sym, ap, ◌∙◌}
 use mathlib.Core.Bool.{Bool, true, false, not, cond, ◌&&◌}
 use mathlib.Core.List.{[], ◌∷◌}
-use mathlib.Core.Option.{none, some}
+use Rattle.std.proofs.Common.{None, Some}
 use Prim.Native.Nat.{ℕ, ◌+◌, ◌<◌}
 use native.Mathlib.Omega.{arith}
 use borrow.Author.Tests.{eqb-true, leb-true, leb-false, lt-ltb, le-ltb}
@@ -77,10 +77,10 @@ refused_as_noted u h k =
     }
 
 -- ---- U3: what an accepted offer is told
-pub offer_told : (u : Urgent) (h : Cells) → Kept u h → (flow deadline : ℕ) → refusal_in (offer_of u flow deadline).answer ≡ none
+pub offer_told : (u : Urgent) (h : Cells) → Kept u h → (flow deadline : ℕ) → refusal_in (offer_of u flow deadline).answer ≡ None
     → (told (offer_of u flow deadline).answer).values ≡ accepted_of h flow ∷ last_in h deadline ∷ []
 offer_told u h k flow deadline =
-    offer_cases u (λ d. refusal_in d.answer ≡ none → (told d.answer).values ≡ accepted_of h flow ∷ last_in h deadline ∷ [])
+    offer_cases u (λ d. refusal_in d.answer ≡ None → (told d.answer).values ≡ accepted_of h flow ∷ last_in h deadline ∷ [])
     (λ r e. absurd (none_is_none r (sym e))) flow deadline
     (λ l o d w e. rw (k.next flow (omega arith), k.time))
 
@@ -120,7 +120,7 @@ unfolding turn_of first_of
 sends_earliest u h k = go (leb slot_limit u.now.0) refl (least_held is_held key_of u.cells) refl
   where
     go : (t : Bool) → leb slot_limit u.now.0 ≡ t → (x : Choice Place) → chosen u true ≡ x
-        → Earliest h (unless (refused u) (cond t (some SlotsUsedUp) none) (turned u x)).answer
+        → Earliest h (unless (refused u) (cond t (Some SlotsUsedUp) None) (turned u x)).answer
     go true p x e = omega (arith, k.time, leb-true slot_limit u.now.0 p)
     go false p nothing e = none_passes (waits h) h.accepted (none_wait u h k e (λ f n l. true))
     go false p (at place c) e = sent_first u h k place c e (count (last_is u.now) (set u.cells place free_cell))

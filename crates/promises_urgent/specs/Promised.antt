@@ -8,7 +8,7 @@ use Rattle.urgent.specs.declared.Cell.{Cell as Place}
 use Rattle.urgent.specs.declared.Answer.{Answer}
 use Rattle.urgent.specs.declared.Answer.TheVariants.{Refused, Opened, Closed, Accepted, Sent, Idle}
 use Rattle.urgent.specs.Lane.{flow_at, waiting_of}
-use Rattle.places.specs.Members.{Each, Some}
+use Rattle.places.specs.Members.{Each, Any}
 use Rattle.places.specs.Numbers.{of_flow, Numbered}
 use Rattle.places.specs.Marks.{open_in}
 use Rattle.promises_urgent.specs.Plans.{Sending, Plan, Overloaded}
@@ -57,7 +57,7 @@ cell_key a = record { rank = a.last; flow = a.flow; number = a.number }
 -- it is idle only where none waits, and refused only where the slot numbers are used up.
 abbrev pub Earliest : Cells → Answer → Type 0
 Earliest h (Sent flow number missed) =
-    Some
+    Any
     (λ (a : Cell).
     (waits h a ≡ true)
     × (a.flow ≡ flow)

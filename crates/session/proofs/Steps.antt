@@ -1,7 +1,7 @@
 -- A line's call, each way that a byte can go, and the end, as steps.
 use mathlib.Core.Path.{◌≡◌, refl, ap}
 use mathlib.Core.List.{List, []}
-use mathlib.Core.Option.{Option, none, some}
+use Rattle.std.proofs.Common.{Option, None, Some}
 use Prim.Native.Nat.{ℕ, ◌+◌, ◌≤◌, ◌<◌}
 use native.Mathlib.Omega.{arith}
 use borrow.Author.Tests.{eq-eqb, ne_eqb, lt-ltb, le-ltb}
@@ -23,13 +23,13 @@ use Rattle.session.specs.declared.Session.{Session}
 use Rattle.session.specs.Steps.{kept_as, step_of, finish_of}
 
 -- what was parsed, read back
-pub asked : (o : Option Call) (r : Parsed) (c : Call) → r ≡ parsed_of o → r ≡ Command c → o ≡ some c
-asked none r c p q = let z : ◌≡◌ {A = ℕ} 0 1 = cc in absurd (omega arith)
-asked (some d) r c p q = let e : d ≡ c = cc in ap some e
+pub asked : (o : Option Call) (r : Parsed) (c : Call) → r ≡ parsed_of o → r ≡ Command c → o ≡ Some c
+asked None r c p q = let z : ◌≡◌ {A = ℕ} 0 1 = cc in absurd (omega arith)
+asked (Some d) r c p q = let e : d ≡ c = cc in ap Some e
 
-pub not_asked : (o : Option Call) (r : Parsed) → r ≡ parsed_of o → r ≡ NoCommand → o ≡ none
-not_asked none r p q = refl
-not_asked (some d) r p q = let z : ◌≡◌ {A = ℕ} 0 1 = cc in absurd (omega arith)
+pub not_asked : (o : Option Call) (r : Parsed) → r ≡ parsed_of o → r ≡ NoCommand → o ≡ None
+not_asked None r p q = refl
+not_asked (Some d) r p q = let z : ◌≡◌ {A = ℕ} 0 1 = cc in absurd (omega arith)
 
 -- each way that a byte can go
 pub step_call : (s : Session) (b : ℕ) {r : Parsed} {c : Call} {d : Called} → b ≡ line_feed → r ≡ parsed_of (kept_as s.kept s.count) → r ≡ Command c → d ≡ call_of s.station c

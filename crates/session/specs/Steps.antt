@@ -1,6 +1,5 @@
 -- The session's state, byte by byte: the station, and the line that is not at its end yet.
-use Rattle.std.specs.Prelude.{cond, List, [], ℕ, ◌+◌, eqb, leb, ltb, take, set, replicate}
-use Rattle.std.proofs.Math.Option.{Option, none}
+use Rattle.std.specs.Prelude.{cond, List, [], ℕ, ◌+◌, eqb, leb, ltb, take, set, replicate, Option, None}
 use Rattle.station.specs.Calls.{fresh_station}
 use Rattle.station.specs.declared.Call.{Call}
 use Rattle.lines.specs.Reading.{read_call}
@@ -15,7 +14,7 @@ fresh_session = record { station = fresh_station; kept = replicate 32 0; count =
 
 -- what the bytes kept so far ask for, were the line at its end; a count above 32 says that the line is too long
 abbrev pub kept_as : List ℕ → ℕ → Option Call
-kept_as kept count = cond (leb count 32) (read_call (take count kept)) none
+kept_as kept count = cond (leb count 32) (read_call (take count kept)) None
 
 -- how the station answers the line kept so far
 abbrev pub answered_by : Session → Answered

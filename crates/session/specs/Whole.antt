@@ -1,6 +1,5 @@
 -- A whole session, bytes to bytes: what a reader of the station's output may expect of its input.
-use Rattle.std.specs.Prelude.{cond, List, [], ◌∷◌, ◌++◌, ℕ, leb, length}
-use Rattle.std.proofs.Math.Option.{Option, none, some}
+use Rattle.std.specs.Prelude.{cond, List, [], ◌∷◌, ◌++◌, ℕ, leb, length, Option, None, Some}
 use Rattle.station.specs.Calls.{fresh_station, call_of}
 use Rattle.station.specs.declared.Station.{Station}
 use Rattle.station.specs.declared.Call.{Call}
@@ -10,7 +9,7 @@ use Rattle.replies.specs.Printing.{no_command_line, line_of}
 
 -- the call that a line asks for: none where it has more than 32 bytes, or is no text of a call with numbers small enough
 abbrev pub heard_as : List ℕ → Option Call
-heard_as line = cond (leb (length line) 32) (read_call line) none
+heard_as line = cond (leb (length line) 32) (read_call line) None
 
 -- the station after a line, and the line that it answers
 pub record Answered : Type 0 where
@@ -19,8 +18,8 @@ pub record Answered : Type 0 where
 
 -- a call is answered by its reply; a line that is no command is answered once, and the station is as it was
 abbrev pub answer_of : Station → Option Call → Answered
-answer_of s none = record { station = s; text = no_command_line }
-answer_of s (some c) = record { station = (call_of s c).station; text = line_of (call_of s c).reply }
+answer_of s None = record { station = s; text = no_command_line }
+answer_of s (Some c) = record { station = (call_of s c).station; text = line_of (call_of s c).reply }
 
 -- one line after the other, the station going on from each to the next
 unfoldable pub answers_of : Station → List (List ℕ) → List ℕ

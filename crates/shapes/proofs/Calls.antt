@@ -1,9 +1,10 @@
 -- Calls that are told by the shape of a line: where each has a shape of its own, a line is read as a call exactly where it is that
 -- shape's one text.
+use Rattle.std.proofs.lemmas.Option.{same_Some}
 use mathlib.Core.Path.{◌≡◌, refl, sym, ◌∙◌, ap, transport, transport⁻¹}
 use mathlib.Core.Bool.{Bool, true, false, cond}
 use mathlib.Core.List.{List}
-use mathlib.Core.Option.{Option, none, some, some-injective}
+use Rattle.std.proofs.Common.{Option, None, Some}
 use Prim.Native.Nat.{ℕ, ◌≤◌}
 use borrow.Author.Tests.{eqb-true}
 use lib.Dec.{eqb}
@@ -18,18 +19,18 @@ by_shape tell e given = ap tell (sym given ∙ e)
 
 module _ {C : Type 0} (shaped : C → Shape) where
   -- a call that is chosen by a letter has the letter's shape, where the first choice has that of its own letter, and so have the later ones
-  pub chosen : (at-letter : ℕ → Shape) (letter own : ℕ) (x : C) (o : Option C) (c : C) → cond (eqb letter own) (some x) o ≡ some c
-      → at-letter own ≡ shaped x → (o ≡ some c → at-letter letter ≡ shaped c) → at-letter letter ≡ shaped c
+  pub chosen : (at-letter : ℕ → Shape) (letter own : ℕ) (x : C) (o : Option C) (c : C) → cond (eqb letter own) (Some x) o ≡ Some c
+      → at-letter own ≡ shaped x → (o ≡ Some c → at-letter letter ≡ shaped c) → at-letter letter ≡ shaped c
   chosen at-letter letter own x o c e here later = go (eqb letter own) refl e
     where
-      go : (t : Bool) → eqb letter own ≡ t → cond t (some x) o ≡ some c → at-letter letter ≡ shaped c
-      go true l e = ap at-letter (eqb-true letter own l) ∙ here ∙ ap shaped (some-injective x c e)
+      go : (t : Bool) → eqb letter own ≡ t → cond t (Some x) o ≡ Some c → at-letter letter ≡ shaped c
+      go true l e = ap at-letter (eqb-true letter own l) ∙ here ∙ ap shaped (same_Some x c e)
       go false l e = later e
 
   module _ (call_in : Shape → Option C) (text : C → List ℕ) (Fits : C → Type 0) where
     -- a call's shape tells the call, and has its text and its numbers
     abbrev pub Tells : C → Type 1
-    Tells c = (call_in (shaped c) ≡ some c) × (text_of (shaped c) ≡ some (text c)) × (Fits c ≡ Small (shaped c))
+    Tells c = (call_in (shaped c) ≡ Some c) × (text_of (shaped c) ≡ Some (text c)) × (Fits c ≡ Small (shaped c))
 
     module _ (tells : (c : C) → Tells c) where
       -- no text of a call is longer than 23 bytes
@@ -37,26 +38,26 @@ module _ {C : Type 0} (shaped : C → Shape) where
       fits c f = let t = tells c in texts_fit (shaped c) (text c) t.1 (transport t.2 f)
 
       -- a line is read as a call exactly where it is the call's one text
-      module _ (told : (s : Shape) (c : C) → call_in s ≡ some c → s ≡ shaped c) (line : List ℕ) where
-        is_text : (c : C) → call_in (shape_of line) ≡ some c → (line ≡ text c) × Fits c
+      module _ (told : (s : Shape) (c : C) → call_in s ≡ Some c → s ≡ shaped c) (line : List ℕ) where
+        is_text : (c : C) → call_in (shape_of line) ≡ Some c → (line ≡ text c) × Fits c
         is_text c e =
             let t = tells c in
             let w = (has_one_text line).0 (shaped c) (text c) (told (shape_of line) c e) t.1 in
             (w.0, transport⁻¹ t.2 w.1)
 
-        reads_text : (c : C) → line ≡ text c → Fits c → call_in (shape_of line) ≡ some c
+        reads_text : (c : C) → line ≡ text c → Fits c → call_in (shape_of line) ≡ Some c
         reads_text c e f =
             let t = tells c in
             ap call_in ((has_one_text line).1 (shaped c) (text c) t.1 e (transport t.2 f)) ∙ t.0
 
-        other : ((c : C) → line ≡ text c → Fits c → ⊥) → call_in (shape_of line) ≡ none
+        other : ((c : C) → line ≡ text c → Fits c → ⊥) → call_in (shape_of line) ≡ None
         other f = go (call_in (shape_of line)) refl
           where
-            go : (o : Option C) → call_in (shape_of line) ≡ o → call_in (shape_of line) ≡ none
-            go none e = e
-            go (some c) e = let w = is_text c e in absurd (f c w.0 w.1)
+            go : (o : Option C) → call_in (shape_of line) ≡ o → call_in (shape_of line) ≡ None
+            go None e = e
+            go (Some c) e = let w = is_text c e in absurd (f c w.0 w.1)
 
-        pub reads : ((c : C) → call_in (shape_of line) ≡ some c → (line ≡ text c) × Fits c)
-            × ((c : C) → line ≡ text c → Fits c → call_in (shape_of line) ≡ some c)
-            × (((c : C) → line ≡ text c → Fits c → ⊥) → call_in (shape_of line) ≡ none)
+        pub reads : ((c : C) → call_in (shape_of line) ≡ Some c → (line ≡ text c) × Fits c)
+            × ((c : C) → line ≡ text c → Fits c → call_in (shape_of line) ≡ Some c)
+            × (((c : C) → line ≡ text c → Fits c → ⊥) → call_in (shape_of line) ≡ None)
         reads = (is_text, reads_text, other)

@@ -1,7 +1,7 @@
 -- Each way that a line can go: a letter alone, a letter and what follows a blank, one number or two.
 use mathlib.Core.Path.{◌≡◌, refl, ◌∙◌}
 use mathlib.Core.List.{List, [], ◌∷◌}
-use mathlib.Core.Option.{none, some}
+use Rattle.std.proofs.Common.{None, Some}
 use Prim.Native.Nat.{ℕ, ◌+◌, ◌≤◌, ◌<◌}
 use native.Mathlib.Numerals.{add-one}
 use native.Mathlib.Omega.{arith}
@@ -33,10 +33,10 @@ line_spaced (x ∷ []) l b = absurd (omega arith)
 line_spaced (x ∷ y ∷ ys) l b = rw (eq-eqb y blank b)
 
 module _ (line : List ℕ) (l : 2 ≤ length line) (b : get_or line 1 0 ≡ blank) where
-  pub line_missing : read_number (drop 2 line) ≡ none → shape_of line ≡ Other
+  pub line_missing : read_number (drop 2 line) ≡ None → shape_of line ≡ Other
   line_missing e = line_spaced line l b ∙ rw e
 
-  module _ (a p : ℕ) (first : read_number (drop 2 line) ≡ some (a, drop p line)) where
+  module _ (a p : ℕ) (first : read_number (drop 2 line) ≡ Some (a, drop p line)) where
     pub line_one : length line ≤ p → shape_of line ≡ One (get_or line 0 0) a
     line_one h = line_spaced line l b ∙ rw (first, drop_of_length-le line {i = p} h)
 
@@ -44,10 +44,10 @@ module _ (line : List ℕ) (l : 2 ≤ length line) (b : get_or line 1 0 ≡ blan
       line_more : shape_of line ≡ read_second (get_or line 0 0) a (read_number (drop (p + 1) line))
       line_more = line_spaced line l b ∙ rw (first, drop-cons line p 0 h, add-one)
 
-      pub second_missing : read_number (drop (p + 1) line) ≡ none → shape_of line ≡ Other
+      pub second_missing : read_number (drop (p + 1) line) ≡ None → shape_of line ≡ Other
       second_missing e = line_more ∙ rw e
 
-      module _ (c q : ℕ) (second : read_number (drop (p + 1) line) ≡ some (c, drop q line)) where
+      module _ (c q : ℕ) (second : read_number (drop (p + 1) line) ≡ Some (c, drop q line)) where
         pub line_two : length line ≤ q → shape_of line ≡ Two (get_or line 0 0) a c
         line_two g = line_more ∙ rw (second, drop_of_length-le line {i = q} g)
 

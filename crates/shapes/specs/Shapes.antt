@@ -1,6 +1,5 @@
 -- The shape of a line, byte by byte, and the text of a shape; a byte is its number in ASCII.
-use Rattle.std.specs.Prelude.{cond, List, [], ◌∷◌, ◌++◌, ℕ, ◌≤◌, eqb}
-use Rattle.std.proofs.Math.Option.{Option, none, some}
+use Rattle.std.specs.Prelude.{cond, List, [], ◌∷◌, ◌++◌, ℕ, ◌≤◌, eqb, Option, None, Some}
 use Rattle.text.specs.Decimal.{decimal_of}
 use Rattle.text.specs.Reading.{blank, largest, Taken, read_number}
 use Rattle.shapes.specs.declared.Shape.{Shape}
@@ -8,15 +7,15 @@ use Rattle.shapes.specs.declared.Shape.TheVariants.{Word, One, Two, Other}
 
 -- after a first number and a blank a second number ends the line
 abbrev pub read_second : ℕ → ℕ → Option Taken → Shape
-read_second letter a none = Other
-read_second letter a (some (b, [])) = Two letter a b
-read_second letter a (some (b, x ∷ rest)) = Other
+read_second letter a None = Other
+read_second letter a (Some (b, [])) = Two letter a b
+read_second letter a (Some (b, x ∷ rest)) = Other
 
 -- a first number ends the line, or a blank and a second number follow it
 abbrev pub read_first : ℕ → Option Taken → Shape
-read_first letter none = Other
-read_first letter (some (a, [])) = One letter a
-read_first letter (some (a, x ∷ rest)) = read_second letter a (read_number rest)
+read_first letter None = Other
+read_first letter (Some (a, [])) = One letter a
+read_first letter (Some (a, x ∷ rest)) = read_second letter a (read_number rest)
 
 -- a line: a letter alone, or a letter, a blank and what follows
 abbrev pub shape_of : List ℕ → Shape
@@ -26,10 +25,10 @@ shape_of (letter ∷ x ∷ rest) = cond (eqb x blank) (read_first letter (read_n
 
 -- a shape's one text: its letter, and each of its numbers after one blank; a line of no shape has none to be
 abbrev pub text_of : Shape → Option (List ℕ)
-text_of (Word letter) = some (letter ∷ [])
-text_of (One letter a) = some (letter ∷ blank ∷ decimal_of a)
-text_of (Two letter a b) = some (letter ∷ blank ∷ (decimal_of a ++ blank ∷ decimal_of b))
-text_of Other = none
+text_of (Word letter) = Some (letter ∷ [])
+text_of (One letter a) = Some (letter ∷ blank ∷ decimal_of a)
+text_of (Two letter a b) = Some (letter ∷ blank ∷ (decimal_of a ++ blank ∷ decimal_of b))
+text_of Other = None
 
 -- each number of a shape is one that a line may hold
 abbrev pub Small : Shape → Type 0

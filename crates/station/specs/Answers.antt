@@ -1,5 +1,5 @@
 -- The number and the values that the rules give for each reply, and the refusal in it.
-use Rattle.std.proofs.Math.Option.{Option}
+use Rattle.std.specs.Prelude.{Option}
 use Rattle.units.specs.Answers.{Told}
 use Rattle.units.specs.declared.Refusal.{Refusal}
 use Rattle.urgent.specs.Answers.{told as urgent_told, refusal_in as urgent_refusal}

@@ -1,6 +1,5 @@
 -- What holds of every call in every state.
-use Rattle.std.specs.Prelude.{◌≡◌, Bool, true, false, List, [], ◌∷◌, map, ℕ}
-use Rattle.std.proofs.Math.Option.{some}
+use Rattle.std.specs.Prelude.{◌≡◌, Bool, true, false, List, [], ◌∷◌, map, ℕ, Some}
 use Rattle.units.specs.Refusals.{Ground, number_of, first_of}
 use Rattle.units.specs.Answers.{number_in}
 use Rattle.units.specs.declared.Refusal.{Refusal}
@@ -54,7 +53,7 @@ GroundsInOrder = (s : Station) (call : Call) → map (λ (g : Ground). number_of
 
 -- A refused call leaves the station as it was.
 abbrev pub RefusedSame : Type 0
-RefusedSame = (s : Station) (call : Call) (r : Refusal) → refusal_in (call_of s call).reply ≡ some r → (call_of s call).station ≡ s
+RefusedSame = (s : Station) (call : Call) (r : Refusal) → refusal_in (call_of s call).reply ≡ Some r → (call_of s call).station ≡ s
 
 -- a call of the urgent lane
 abbrev pub is_urgent : Call → Bool

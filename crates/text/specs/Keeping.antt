@@ -1,17 +1,16 @@
 -- A state that is fed byte by byte and answers line by line: of the line that is not at its end yet it keeps the first 32 bytes and a
 -- count, 33 where the line is longer.
-use Rattle.std.specs.Prelude.{cond, List, [], ◌∷◌, ◌++◌, ◌≡◌, ℕ, ◌+◌, ◌≤◌, ◌<◌, leb, length, take, set}
-use Rattle.std.proofs.Math.Option.{Option, none}
+use Rattle.std.specs.Prelude.{cond, List, [], ◌∷◌, ◌++◌, ◌≡◌, ℕ, ◌+◌, ◌≤◌, ◌<◌, leb, length, take, set, Option, None}
 use Rattle.text.specs.Lines.{line_feed}
 use Rattle.text.specs.Feeding.{Step}
 
 -- what a line asks for: nothing where it has more than 32 bytes
 abbrev pub heard_by : {C : Type 0} → (List ℕ → Option C) → List ℕ → Option C
-heard_by read line = cond (leb (length line) 32) (read line) none
+heard_by read line = cond (leb (length line) 32) (read line) None
 
 -- what the bytes kept so far ask for, were the line at its end
 abbrev pub kept_by : {C : Type 0} → (List ℕ → Option C) → List ℕ → ℕ → Option C
-kept_by read kept count = cond (leb count 32) (read (take count kept)) none
+kept_by read kept count = cond (leb count 32) (read (take count kept)) None
 
 -- What is asked of such a state, made of what answers, the bytes kept and their count: how lines are answered, and how it takes each byte
 -- and the end of the input.

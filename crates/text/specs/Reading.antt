@@ -1,6 +1,5 @@
 -- What is read of a number in a line, byte by byte.
-use Rattle.std.specs.Prelude.{Bool, cond, ◌&&◌, List, [], ◌∷◌, ◌≡◌, ℕ, ◌+◌, ◌-◌, ◌*◌, ◌≤◌, leb, eqb, length, drop}
-use Rattle.std.proofs.Math.Option.{Option, none, some}
+use Rattle.std.specs.Prelude.{Bool, cond, ◌&&◌, List, [], ◌∷◌, ◌≡◌, ℕ, ◌+◌, ◌-◌, ◌*◌, ◌≤◌, leb, eqb, length, drop, Option, None, Some}
 use Rattle.text.specs.declared.Field.{Field}
 use Rattle.text.specs.declared.Field.TheVariants.{Number, Missing}
 
@@ -30,15 +29,15 @@ Taken = ℕ × List ℕ
 
 -- the rest of a number, up to a blank or the end
 unfoldable pub read_on : ℕ → List ℕ → Option Taken
-read_on value [] = some (value, [])
-read_on value (b ∷ bs) = cond (eqb b blank) (some (value, b ∷ bs)) (cond (goes_on value b) (read_on (grown value b) bs) none)
+read_on value [] = Some (value, [])
+read_on value (b ∷ bs) = cond (eqb b blank) (Some (value, b ∷ bs)) (cond (goes_on value b) (read_on (grown value b) bs) None)
 
 -- a number at the start of some bytes; its first byte is a digit
 abbrev pub read_number : List ℕ → Option Taken
-read_number [] = none
-read_number (b ∷ bs) = cond (is_digit b) (read_on (b - 48) bs) none
+read_number [] = None
+read_number (b ∷ bs) = cond (is_digit b) (read_on (b - 48) bs) None
 
 -- a field of a line as it was taken: its number, and the place from which the rest stands
 abbrev pub Reads : List ℕ → Field → Option Taken → Type 0
-Reads line (Number value next) taken = (next ≤ length line) × (taken ≡ some (value, drop next line))
-Reads line Missing taken = taken ≡ none
+Reads line (Number value next) taken = (next ≤ length line) × (taken ≡ Some (value, drop next line))
+Reads line Missing taken = taken ≡ None

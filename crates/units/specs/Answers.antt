@@ -1,6 +1,5 @@
 -- What an answer tells the station's users, whatever its form: a refusal's number, and the values that the rules name.
-use Rattle.std.specs.Prelude.{ℕ, List, []}
-use Rattle.std.proofs.Math.Option.{Option, none, some}
+use Rattle.std.specs.Prelude.{ℕ, List, [], Option, None, Some}
 use Rattle.units.specs.declared.Refusal.{Refusal}
 use Rattle.units.specs.Refusals.{number_of}
 
@@ -17,5 +16,5 @@ values ns = record { number = 0; values = ns }
 
 -- the number of a call's refusal, 0 where there is none
 abbrev pub number_in : Option Refusal → ℕ
-number_in none = 0
-number_in (some r) = number_of r
+number_in None = 0
+number_in (Some r) = number_of r

@@ -1,6 +1,5 @@
 -- The refusals by their numbers, and which one a call gives.
-use Rattle.std.specs.Prelude.{ℕ, Bool, cond, List, [], ◌∷◌}
-use Rattle.std.proofs.Math.Option.{Option, none, some}
+use Rattle.std.specs.Prelude.{ℕ, Bool, cond, List, [], ◌∷◌, Option, None, Some}
 use Rattle.units.specs.declared.Refusal.{Refusal}
 use Rattle.units.specs.declared.Refusal.TheVariants.{NoSuchFlow, NotOpen, AlreadyOpen, PlacesFull, TagsUsedUp, SlotsUsedUp, PacketInService, NothingWaits, NothingInService, NoCommand, FlowInUse, BadWeight, BadDeadline, BadLength, ListTooLong, BadBurst, BadPeriod, BadTree}
 
@@ -30,10 +29,10 @@ Ground = Refusal × Bool
 
 -- the first refusal of a call's list whose condition holds
 unfoldable pub first_of : List Ground → Option Refusal
-first_of [] = none
-first_of (g ∷ gs) = cond g.1 (some g.0) (first_of gs)
+first_of [] = None
+first_of (g ∷ gs) = cond g.1 (Some g.0) (first_of gs)
 
 -- what a call gives: it goes through, unless some refusal applies; then it gives what it gives for that refusal
 abbrev pub unless : {D : Type 0} → (Refusal → D) → Option Refusal → D → D
-unless refused none done = done
-unless refused (some r) done = refused r
+unless refused None done = done
+unless refused (Some r) done = refused r

@@ -1,7 +1,6 @@
 -- The lane's laws: what an open turn answers is what the least held place holds, and that place leads. A call is refused exactly for the
 -- first of its grounds that holds, and then leaves the lane as it was.
-use Rattle.std.proofs.Common.{◌≡◌, ℕ, Bool, true, false, cond, leb, sym, refl, ◌∙◌, arith}
-use mathlib.Core.Option.{Option, none, some}
+use Rattle.std.proofs.Common.{◌≡◌, ℕ, Bool, true, false, cond, leb, sym, refl, ◌∙◌, arith, Option, None, Some}
 use Rattle.units.specs.Limits.{slot_limit}
 use Rattle.units.specs.Refusals.{first_of, unless}
 use Rattle.units.specs.declared.Refusal.{Refusal}
@@ -22,7 +21,7 @@ use Rattle.urgent.specs.Laws.{cell_at, SentFirst, SendsFirst, RefusedFirst, Refu
 module _ (u : Urgent) where
   -- the turn, where it is refused or not and has chosen
   abbrev by_choice : Bool → Choice Place → Done
-  by_choice late x = unless (refused u) (cond late (some SlotsUsedUp) none) (turned u x)
+  by_choice late x = unless (refused u) (cond late (Some SlotsUsedUp) None) (turned u x)
 
   sends : (flow number missed : ℕ) → (turn_of u true).answer ≡ Sent flow number missed → SentFirst u flow number
   unfolding turn_of first_of
@@ -65,16 +64,16 @@ sends_first u = record { sends = sends u; idles = idles u }
 
 -- ---- refused calls
 module _ (u : Urgent) where
-  first : (o : Option Refusal) (d : Done) → refusal_in d.answer ≡ none → refusal_in (unless (refused u) o d).answer ≡ o
+  first : (o : Option Refusal) (d : Done) → refusal_in d.answer ≡ None → refusal_in (unless (refused u) o d).answer ≡ o
   first = unless_first (refused u) (λ (d : Done). refusal_in d.answer) (λ r. refl)
 
-  same : (o : Option Refusal) (d : Done) → refusal_in d.answer ≡ none → (r : Refusal)
-      → refusal_in (unless (refused u) o d).answer ≡ some r → (unless (refused u) o d).lane ≡ u
+  same : (o : Option Refusal) (d : Done) → refusal_in d.answer ≡ None → (r : Refusal)
+      → refusal_in (unless (refused u) o d).answer ≡ Some r → (unless (refused u) o d).lane ≡ u
   same o d e =
       unless_same (refused u) (λ (d : Done). refusal_in d.answer) (λ (d : Done). d.lane) u (λ r. refl) o d
       (λ r q. absurd (none_is_none r (sym e ∙ q)))
 
-  turned_taken : (x : Choice Place) → refusal_in (turned u x).answer ≡ none
+  turned_taken : (x : Choice Place) → refusal_in (turned u x).answer ≡ None
   turned_taken nothing = refl
   turned_taken (at place c) = refl
 

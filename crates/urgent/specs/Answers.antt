@@ -1,6 +1,5 @@
 -- The number and the values that the rules give for each answer of the urgent lane, and the refusal in it.
-use Rattle.std.specs.Prelude.{[], ◌∷◌}
-use Rattle.std.proofs.Math.Option.{Option, none, some}
+use Rattle.std.specs.Prelude.{[], ◌∷◌, Option, None, Some}
 use Rattle.units.specs.declared.Refusal.{Refusal}
 use Rattle.units.specs.Answers.{Told, refusal, values}
 use Rattle.urgent.specs.declared.Answer.{Answer}
@@ -16,9 +15,9 @@ told (Sent flow number missed) = values (flow ∷ number ∷ missed ∷ [])
 told (Idle missed) = values (missed ∷ [])
 
 abbrev pub refusal_in : Answer → Option Refusal
-refusal_in (Refused r) = some r
-refusal_in Opened = none
-refusal_in Closed = none
-refusal_in (Accepted number last) = none
-refusal_in (Sent flow number missed) = none
-refusal_in (Idle missed) = none
+refusal_in (Refused r) = Some r
+refusal_in Opened = None
+refusal_in Closed = None
+refusal_in (Accepted number last) = None
+refusal_in (Sent flow number missed) = None
+refusal_in (Idle missed) = None

@@ -1,6 +1,5 @@
 -- What holds of the lane's definitions in every state.
-use Rattle.std.specs.Prelude.{◌≡◌, ℕ, ◌<◌, Bool, true, false, length, slice_index_or, slice_set}
-use Rattle.std.proofs.Math.Option.{some}
+use Rattle.std.specs.Prelude.{◌≡◌, ℕ, ◌<◌, Bool, true, false, length, slice_index_or, slice_set, Some}
 use Rattle.units.specs.Limits.{place_count}
 use Rattle.units.specs.Refusals.{first_of}
 use Rattle.units.specs.declared.Refusal.{Refusal}
@@ -47,7 +46,7 @@ pub record RefusedFirst (u : Urgent) : Type 0 where
 
 -- A refused call leaves the lane as it was.
 pub record RefusedSame (u : Urgent) (r : Refusal) : Type 0 where
-  pub opening : (flow deadline : ℕ) → refusal_in (open_of u flow deadline).answer ≡ some r → (open_of u flow deadline).lane ≡ u
-  pub closing : (flow : ℕ) → refusal_in (close_of u flow).answer ≡ some r → (close_of u flow).lane ≡ u
-  pub offering : (flow deadline : ℕ) → refusal_in (offer_of u flow deadline).answer ≡ some r → (offer_of u flow deadline).lane ≡ u
-  pub turning : (usable : Bool) → refusal_in (turn_of u usable).answer ≡ some r → (turn_of u usable).lane ≡ u
+  pub opening : (flow deadline : ℕ) → refusal_in (open_of u flow deadline).answer ≡ Some r → (open_of u flow deadline).lane ≡ u
+  pub closing : (flow : ℕ) → refusal_in (close_of u flow).answer ≡ Some r → (close_of u flow).lane ≡ u
+  pub offering : (flow deadline : ℕ) → refusal_in (offer_of u flow deadline).answer ≡ Some r → (offer_of u flow deadline).lane ≡ u
+  pub turning : (usable : Bool) → refusal_in (turn_of u usable).answer ≡ Some r → (turn_of u usable).lane ≡ u
