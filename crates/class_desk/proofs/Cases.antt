@@ -9,8 +9,7 @@ use Rattle.units.specs.declared.Refusal.TheVariants.{NoCommand}
 use Rattle.plans.specs.declared.Plan.{Plan}
 use Rattle.classes.specs.declared.Call.{Call}
 use Rattle.plans.specs.Plans.{broken}
-use Rattle.planting.specs.declared.Answer as planted
-use Rattle.planting.specs.declared.Answer.TheVariants.{Refused as Unfit, SetUp as Planted}
+use Rattle.std.specs.Prelude.{Result, Ok, Err}
 use Rattle.planting.specs.declared.Planted as planting
 use Rattle.planting.specs.SetUp.{set_up_of}
 use Rattle.planting.proofs.Laws.{set_up_broken, set_up_whole}
@@ -40,29 +39,29 @@ module _ (p : Plan) (parent weight : ℕ) where
 -- setting up, t being what it gave
 module _ (d : Desk) (t : planting.Planted) (e : t ≡ set_up_of d.lane d.plan) where
   -- by the answer
-  settled_by : (a : planted.Answer) → t.answer ≡ a → settled d t.lane a ≡ hear_first d SetUp
+  settled_by : (a : Result (Unit {0}) Refusal) → t.answer ≡ a → settled d t.lane a ≡ hear_first d SetUp
   settled_by a q = ap (settled d t.lane) (sym q) ∙ ap (λ (x : planting.Planted). settled d x.lane x.answer) e
 
-  pub desk_ready : t.answer ≡ Planted → record { desk = record { ready = true; plan = d.plan; lane = t.lane }; reply = Noted } ≡ hear_first d SetUp
-  desk_ready q = settled_by Planted q
+  pub desk_ready : t.answer ≡ Ok tt → record { desk = record { ready = true; plan = d.plan; lane = t.lane }; reply = Noted } ≡ hear_first d SetUp
+  desk_ready q = settled_by (Ok tt) q
 
-  pub starts_anew : (r : Refusal) → t.answer ≡ Unfit r → (none : Plan) → none ≡ no_plan
+  pub starts_anew : (r : Refusal) → t.answer ≡ Err r → (none : Plan) → none ≡ no_plan
       → record { desk = describing d none; reply = Refused r } ≡ hear_first d SetUp
-  starts_anew r q none n = rw n (settled_by (Unfit r) q)
+  starts_anew r q none n = rw n (settled_by (Err r) q)
 
   -- the lane that a refused setting up hands back is the desk's
-  same_lane : (r : Refusal) → t.answer ≡ Unfit r → t.lane ≡ d.lane
+  same_lane : (r : Refusal) → t.answer ≡ Err r → t.lane ≡ d.lane
   same_lane r q = ap (λ (x : planting.Planted). x.lane) e ∙ go (broken d.plan) refl
     where
       go : (b : Bool) → broken d.plan ≡ b → (set_up_of d.lane d.plan).lane ≡ d.lane
       go true p = ap (λ (x : planting.Planted). x.lane) (sym (set_up_broken d.lane d.plan p))
       go false p =
-          let a : Planted ≡ (set_up_of d.lane d.plan).answer =
+          let a : Ok tt ≡ (set_up_of d.lane d.plan).answer =
           ap (λ (x : planting.Planted). x.answer) (set_up_whole d.lane d.plan p (lane_of d.plan) refl) in
-          let b : (set_up_of d.lane d.plan).answer ≡ Unfit r = ap (λ (x : planting.Planted). x.answer) (sym e) ∙ q in
+          let b : (set_up_of d.lane d.plan).answer ≡ Err r = ap (λ (x : planting.Planted). x.answer) (sym e) ∙ q in
           cc (a ∙ b)
 
-  pub starts_over : (r : Refusal) → t.answer ≡ Unfit r → (none : Plan) → none ≡ no_plan
+  pub starts_over : (r : Refusal) → t.answer ≡ Err r → (none : Plan) → none ≡ no_plan
       → record { desk = record { ready = false; plan = none; lane = t.lane }; reply = Refused r } ≡ hear_first d SetUp
   starts_over r q none n = rw (same_lane r q) (starts_anew r q none n)
 

@@ -1,5 +1,5 @@
 -- What each command of a desk gives, over every state.
-use Rattle.std.specs.Prelude.{true, false, cond, ℕ, ◌+◌, ltb, set, replicate}
+use Rattle.std.specs.Prelude.{true, false, cond, ℕ, ◌+◌, ltb, set, replicate, Result, Ok, Err}
 use Rattle.units.specs.Limits.{no_such_flow}
 use Rattle.units.specs.declared.Refusal.{Refusal}
 use Rattle.units.specs.declared.Refusal.TheVariants.{NoSuchFlow, NoCommand}
@@ -7,8 +7,6 @@ use Rattle.plans.specs.declared.Plan.{Plan}
 use Rattle.classes.specs.declared.Classes.{Classes}
 use Rattle.classes.specs.declared.Done.{Done}
 use Rattle.classes.specs.Calls.{call_of}
-use Rattle.planting.specs.declared.Answer as planted
-use Rattle.planting.specs.declared.Answer.TheVariants.{Refused as Unfit, SetUp as Planted}
 use Rattle.planting.specs.SetUp.{fresh_lane, set_up_of}
 use Rattle.class_desk.specs.declared.Desk.{Desk}
 use Rattle.class_desk.specs.declared.Command.{Command}
@@ -53,9 +51,9 @@ abbrev pub refused : Desk → Refusal → Heard
 refused d r = record { desk = d; reply = Refused r }
 
 -- setting up: where it is refused the description starts anew, else the desk is ready
-abbrev pub settled : Desk → Classes → planted.Answer → Heard
-settled d lane Planted = record { desk = record { ready = true; plan = d.plan; lane = lane }; reply = Noted }
-settled d lane (Unfit r) = record { desk = describing d no_plan; reply = Refused r }
+abbrev pub settled : Desk → Classes → Result (Unit {0}) Refusal → Heard
+settled d lane (Ok done) = record { desk = record { ready = true; plan = d.plan; lane = lane }; reply = Noted }
+settled d lane (Err r) = record { desk = describing d no_plan; reply = Refused r }
 
 -- a call of the lane
 abbrev pub asked : Desk → Done → Heard

@@ -17,45 +17,24 @@ pub(crate) fn no_plan() -> Plan
 }
 
 // One class more; of more than 31 it is only kept that they are more, so that no tree of them is set up.
-pub(crate) fn class_more(plan: Plan, parent: u64, weight: u64) -> Plan
+pub(crate) fn class_more(mut plan: Plan, parent: u64, weight: u64) -> Plan
     ensures { result ≡ class_more plan parent weight }
 {
-    let count = plan.count;
-    let classes = plan.classes;
-    let mut parents = plan.parents;
-    let mut weights = plan.weights;
-    if 31 <= count {
-        return Plan {
-            count: 32,
-            parents,
-            weights,
-            classes,
-        };
+    if 31 <= plan.count {
+        return Plan { count: 32, ..plan };
     }
-    parents[count as usize] = parent;
-    weights[count as usize] = weight;
-    Plan {
-        count: count + 1,
-        parents,
-        weights,
-        classes,
-    }
+    let class = plan.count as usize;
+    plan.parents[class] = parent;
+    plan.weights[class] = weight;
+    plan.count += 1;
+    plan
 }
 
 // A flow hangs from a class.
-pub(crate) fn hung(plan: Plan, flow: u64, class: u64) -> Plan
+pub(crate) fn hung(mut plan: Plan, flow: u64, class: u64) -> Plan
     requires { flow < 16 }
     ensures { result ≡ hung plan flow class }
 {
-    let count = plan.count;
-    let parents = plan.parents;
-    let weights = plan.weights;
-    let mut classes = plan.classes;
-    classes[flow as usize] = class;
-    Plan {
-        count,
-        parents,
-        weights,
-        classes,
-    }
+    plan.classes[flow as usize] = class;
+    plan
 }

@@ -12,12 +12,10 @@ impl Desk {
     pub fn fresh() -> Desk
         ensures { result ≡ fresh_desk }
     {
-        let plan = describing::no_plan();
-        let lane = planting::fresh();
         Desk {
             ready: false,
-            plan,
-            lane,
+            plan: describing::no_plan(),
+            lane: planting::fresh(),
         }
     }
 
@@ -27,41 +25,39 @@ impl Desk {
         ensures { result ≡ hear_of self command }
     {
         if self.ready {
-            return self.hear_then(command);
+            self.hear_then(command)
+        } else {
+            self.hear_first(command)
         }
-        self.hear_first(command)
     }
 
     // After it is set up, calls are answered, and nothing else.
     fn hear_then(self, command: Command) -> Heard
         ensures { result ≡ hear_then self command }
     {
-        let Command::Ask(call) = command else {
-            return Heard {
-                desk: self,
-                reply: Reply::Refused(Refusal::NoCommand),
-            };
-        };
-        self.ask(call)
+        match command {
+            Command::Ask(call) => self.ask(call),
+            _ => self.replies(Reply::Refused(Refusal::NoCommand)),
+        }
     }
 
     // A call is answered as the lane answers it.
     fn ask(self, call: Call) -> Heard
         ensures { result ≡ asked self (call_of self.lane call) }
     {
-        let plan = self.plan;
-        let was = self.lane;
-        let done = called(was, call);
-        let lane = done.lane;
-        let answer = done.answer;
-        Heard {
-            desk: Desk {
-                ready: self.ready,
-                plan,
-                lane,
-            },
-            reply: Reply::Answered(answer),
-        }
+        let done = called(self.lane, call);
+        let desk = Desk {
+            lane: done.lane,
+            ..self
+        };
+        desk.replies(Reply::Answered(done.answer))
+    }
+
+    // The desk as it is, with this reply.
+    pub(crate) fn replies(self, reply: Reply) -> Heard
+        ensures { result ≡ record { desk = self; reply = reply } }
+    {
+        Heard { desk: self, reply }
     }
 }
 

@@ -1,7 +1,7 @@
 // What a desk does with each command before the tree is set up.
 ghost use Rattle.std.specs.Prelude.{◌≡◌};
 ghost use Rattle.class_desk.specs.declared.Command.TheVariants.{Hang, SetUp};
-ghost use Rattle.class_desk.specs.Desk.{describing, noted, hear_first};
+ghost use Rattle.class_desk.specs.Desk.{noted, hear_first};
 
 use crate::{Command, Desk, Heard, Reply, describing};
 use plans::Plan;
@@ -19,10 +19,7 @@ impl Desk {
             }
             Command::Hang(flow, class) => self.hang(flow, class),
             Command::SetUp => self.set_up(),
-            Command::Ask(_) => Heard {
-                desk: self,
-                reply: Reply::Refused(Refusal::NoCommand),
-            },
+            Command::Ask(_) => self.replies(Reply::Refused(Refusal::NoCommand)),
         }
     }
 
@@ -30,11 +27,12 @@ impl Desk {
     fn noted(self, plan: Plan) -> Heard
         ensures { result ≡ noted self plan }
     {
-        let desk = self.describing(plan);
-        Heard {
-            desk,
-            reply: Reply::Noted,
-        }
+        let desk = Desk {
+            ready: false,
+            plan,
+            ..self
+        };
+        desk.replies(Reply::Noted)
     }
 
     // A flow is given the class that it hangs from.
@@ -42,10 +40,7 @@ impl Desk {
         ensures { result ≡ hear_first self (Hang flow class) }
     {
         if LAST_FLOW < flow {
-            return Heard {
-                desk: self,
-                reply: Reply::Refused(Refusal::NoSuchFlow),
-            };
+            return self.replies(Reply::Refused(Refusal::NoSuchFlow));
         }
         let plan = describing::hung(self.plan, flow, class);
         self.noted(plan)
@@ -55,41 +50,25 @@ impl Desk {
     fn set_up(self) -> Heard
         ensures { result ≡ hear_first self SetUp }
     {
-        let plan = self.plan;
-        let was = self.lane;
-        let planted = planting::set_up(was, plan);
-        let answer = planted.answer;
-        let lane = planted.lane;
-        let planting::Answer::Refused(refusal) = answer else {
-            return Heard {
-                desk: Desk {
+        let planted = planting::set_up(self.lane, &self.plan);
+        match planted.answer {
+            Ok(()) => {
+                let desk = Desk {
                     ready: true,
-                    plan,
-                    lane,
-                },
-                reply: Reply::Noted,
-            };
-        };
-        let none = describing::no_plan();
-        Heard {
-            desk: Desk {
-                ready: false,
-                plan: none,
-                lane,
-            },
-            reply: Reply::Refused(refusal),
-        }
-    }
-
-    // The desk with this description, still told of a tree.
-    fn describing(self, plan: Plan) -> Desk
-        ensures { result ≡ describing self plan }
-    {
-        let lane = self.lane;
-        Desk {
-            ready: false,
-            plan,
-            lane,
+                    lane: planted.lane,
+                    ..self
+                };
+                desk.replies(Reply::Noted)
+            }
+            Err(refusal) => {
+                let none = describing::no_plan();
+                let desk = Desk {
+                    ready: false,
+                    plan: none,
+                    lane: planted.lane,
+                };
+                desk.replies(Reply::Refused(refusal))
+            }
         }
     }
 }

@@ -1,11 +1,10 @@
 -- An answer of the class lane in plain numbers, for programs in C.
-use Rattle.std.specs.Prelude.{[], ◌∷◌, ℕ}
+use Rattle.std.specs.Prelude.{[], ◌∷◌, ℕ, Result, Ok, Err}
 use Rattle.units.specs.Refusals.{number_of}
+use Rattle.units.specs.declared.Refusal.{Refusal}
 use Rattle.classes.specs.declared.Answer as lane
 use Rattle.classes.specs.declared.Answer.TheVariants.{Refused, Opened, Closed, Taken, Begun, Ended}
 use Rattle.classes.specs.Answers.{told, refusal_in}
-use Rattle.planting.specs.declared.Answer as planting
-use Rattle.planting.specs.declared.Answer.TheVariants.{Refused as Unfit, SetUp}
 use Rattle.plain.specs.declared.Answer.{Answer}
 use Rattle.plain.specs.Plain.{figures_of, laid}
 
@@ -23,6 +22,6 @@ abbrev pub answer_of : lane.Answer → Answer
 answer_of answer = laid (kind_of answer) (figures_of (refusal_in answer) (told answer))
 
 -- what setting up is answered: 0 refused, 9 set up
-abbrev pub planted_of : planting.Answer → Answer
-planted_of (Unfit r) = laid 0 (number_of r ∷ [])
-planted_of SetUp = laid 9 []
+abbrev pub planted_of : Result (Unit {0}) Refusal → Answer
+planted_of (Err r) = laid 0 (number_of r ∷ [])
+planted_of (Ok done) = laid 9 []

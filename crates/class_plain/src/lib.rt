@@ -5,6 +5,7 @@ ghost use Rattle.std.specs.Prelude.{◌≡◌};
 ghost use Rattle.class_plain.specs.Plain.{answer_of, planted_of};
 
 use plain::Answer;
+use units::Refusal;
 
 // What a call is answered, in plain numbers.
 pub fn plainly(answer: classes::Answer) -> Answer
@@ -23,11 +24,11 @@ pub fn plainly(answer: classes::Answer) -> Answer
 }
 
 // What setting up is answered, in plain numbers.
-pub fn planted(answer: planting::Answer) -> Answer
+pub fn planted(answer: Result<(), Refusal>) -> Answer
     ensures { result ≡ planted_of answer }
 {
     match answer {
-        planting::Answer::Refused(refusal) => plain::numbers(0, refusal.number(), 0, 0, 0),
-        planting::Answer::SetUp => plain::numbers(9, 0, 0, 0, 0),
+        Ok(()) => plain::numbers(9, 0, 0, 0, 0),
+        Err(refusal) => plain::numbers(0, refusal.number(), 0, 0, 0),
     }
 }

@@ -11,7 +11,7 @@ pub use judging::broken;
 // How many classes there are, what each hangs from, its weight, and the class of each flow. What class 0, the root, hangs from is not read,
 // nor is what stands from the count on.
 #[repr(C)]
-#[derive(Clone, Copy)]
+#[derive(Clone, Copy, Debug, PartialEq, Eq)]
 pub struct Plan {
     pub count: u64,
     pub parents: [u64; 31],
@@ -21,35 +21,23 @@ pub struct Plan {
 
 impl Plan {
     // The class that a class hangs from, 0 of a number that no class has.
-    pub(crate) fn parent_in(self, class: u64) -> u64
-        ensures { result ≡ parent_in self class }
+    pub(crate) fn parent_in(&self, class: u64) -> u64
+        ensures { result ≡ parent_in self.now class }
     {
-        if 31 <= class {
-            return 0;
-        }
-        let parents = self.parents;
-        parents[class as usize]
+        self.parents.get(class as usize).copied().unwrap_or(0)
     }
 
     // The weight of a class, 0 of a number that no class has.
-    pub(crate) fn weight_in(self, class: u64) -> u64
-        ensures { result ≡ weight_in self class }
+    pub(crate) fn weight_in(&self, class: u64) -> u64
+        ensures { result ≡ weight_in self.now class }
     {
-        if 31 <= class {
-            return 0;
-        }
-        let weights = self.weights;
-        weights[class as usize]
+        self.weights.get(class as usize).copied().unwrap_or(0)
     }
 
     // The class that a flow hangs from, 0 of a number that no flow has.
-    pub(crate) fn class_in(self, flow: u64) -> u64
-        ensures { result ≡ class_in self flow }
+    pub(crate) fn class_in(&self, flow: u64) -> u64
+        ensures { result ≡ class_in self.now flow }
     {
-        if 16 <= flow {
-            return 0;
-        }
-        let classes = self.classes;
-        classes[flow as usize]
+        self.classes.get(flow as usize).copied().unwrap_or(0)
     }
 }

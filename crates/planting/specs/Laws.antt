@@ -1,5 +1,5 @@
 -- T0: what setting up does, laid beside the rules of a tree.
-use Rattle.std.specs.Prelude.{◌≡◌, ◌⊎◌, ℕ, ◌<◌}
+use Rattle.std.specs.Prelude.{◌≡◌, ◌⊎◌, ℕ, ◌<◌, Ok, Err}
 use Rattle.units.specs.declared.Refusal.TheVariants.{BadTree}
 use Rattle.packets.specs.Queue.{fresh_queue}
 use Rattle.plans.specs.declared.Plan.{Plan}
@@ -7,7 +7,6 @@ use Rattle.plans.specs.Plans.{Fits, parent_in, weight_in, class_in}
 use Rattle.tree.specs.declared.Tree.{Tree}
 use Rattle.tree.specs.Tree.{no_tag, no_times, no_parent, node_of, node_at, class_at}
 use Rattle.classes.specs.declared.Classes.{Classes}
-use Rattle.planting.specs.declared.Answer.TheVariants.{Refused, SetUp}
 use Rattle.planting.specs.SetUp.{set_up_of}
 
 -- a node before any packet: what it hangs from, its weight, and nothing else
@@ -28,8 +27,8 @@ pub record HasTree (p : Plan) (u : Classes) : Type 0 where
 
 -- A description is set up exactly where it keeps the rules; else it is refused, with 27, and the lane is as it was.
 pub record SetsUp (u : Classes) (p : Plan) : Type 0 where
-  pub kept : Fits p → ((set_up_of u p).answer ≡ SetUp) × HasTree p (set_up_of u p).lane
-  pub broke : (Fits p → ⊥) → ((set_up_of u p).answer ≡ Refused BadTree) × ((set_up_of u p).lane ≡ u)
+  pub kept : Fits p → ((set_up_of u p).answer ≡ Ok tt) × HasTree p (set_up_of u p).lane
+  pub broke : (Fits p → ⊥) → ((set_up_of u p).answer ≡ Err BadTree) × ((set_up_of u p).lane ≡ u)
   pub decided : Fits p ⊎ (Fits p → ⊥)
 
 abbrev pub SetsUpRightly : Type 0

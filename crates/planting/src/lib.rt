@@ -12,55 +12,48 @@ use packets::Queue;
 use plans::Plan;
 use units::Refusal;
 
-// What setting up is answered.
-#[derive(Clone, Copy)]
-pub enum Answer {
-    Refused(Refusal),
-    SetUp,
-}
-
-// The lane after a tree was described to it, and the answer.
+// The lane after a tree was described to it, and whether it was set up.
 #[derive(Drop)]
 pub struct Planted {
     pub lane: Classes,
-    pub answer: Answer,
+    pub answer: Result<(), Refusal>,
 }
 
 // A lane whose tree is one class with every flow in it, before any call.
 pub fn fresh() -> Classes
     ensures { result ≡ fresh_lane }
 {
-    let plan = Plan {
+    lane_of(&Plan {
         count: 1,
         parents: [0; 31],
         weights: [1; 31],
         classes: [0; 16],
-    };
-    lane_of(plan)
+    })
 }
 
 // A new lane with the tree that is described; a description that breaks a rule leaves the lane as it came.
-pub fn set_up(lane: Classes, plan: Plan) -> Planted
-    ensures { result ≡ set_up_of lane plan }
+#[tactic(auto, unfolding(crate::specs::SetUp::set_up_of, units::specs::Refusals::first_of))]
+pub fn set_up(lane: Classes, plan: &Plan) -> Planted
+    ensures { result ≡ set_up_of lane plan.now }
 {
-    let described = lane_of(plan);
     if plans::broken(plan) {
         return Planted {
             lane,
-            answer: Answer::Refused(Refusal::BadTree),
+            answer: Err(Refusal::BadTree),
         };
     }
     Planted {
-        lane: described,
-        answer: Answer::SetUp,
+        lane: lane_of(plan),
+        answer: Ok(()),
     }
 }
 
 // The lane of a tree that is described, before any call.
-fn lane_of(plan: Plan) -> Classes
-    ensures { result ≡ lane_of plan }
+fn lane_of(plan: &Plan) -> Classes
+    ensures { result ≡ lane_of plan.now }
 {
-    let tree = nodes::tree_of(plan);
-    let queue = Queue::fresh();
-    Classes { tree, queue }
+    Classes {
+        tree: nodes::tree_of(plan),
+        queue: Queue::fresh(),
+    }
 }

@@ -1,62 +1,59 @@
 // The nodes of the tree that a description gives.
 ghost use Rattle.std.specs.Prelude.{◌≡◌, ◌<◌};
-ghost use Rattle.tree.specs.Tree.{new_node, class_node, flow_node, tree_of};
+ghost use Rattle.tree.specs.Tree.{new_node, class_node, flow_node, node_at, tree_of};
 
 use plans::Plan;
+use std::array;
 use tree::{Class, Node, Tree};
 use units::Tag;
 
 // The tree that is described, before any call.
-pub(crate) fn tree_of(plan: Plan) -> Tree
-    ensures { result ≡ tree_of plan }
+pub(crate) fn tree_of(plan: &Plan) -> Tree
+    ensures { result ≡ tree_of plan.now }
 {
-    let none = new_node(0, 0);
-    let mut nodes = [none; 47];
-    let mut class: usize = 0;
-    while class < 31 {
-        let x = class_node(plan, class);
-        nodes[class] = x;
-        class += 1;
-    }
-    let mut flow: usize = 0;
-    while flow < 16 {
-        let x = flow_node(plan, flow);
-        nodes[31 + flow] = x;
-        flow += 1;
-    }
-    let classes = [Class {
+    let untouched = Class {
         time: Tag(0),
         largest: Tag(0),
-    }; 31];
-    Tree { nodes, classes }
+    };
+    Tree {
+        nodes: array::from_fn(|k| node_at(plan, k)),
+        classes: [untouched; 31],
+    }
+}
+
+// The node at place k: those of the classes stand before those of the flows.
+#[tactic(auto, using(tree::proofs::Described::class_node_lem, crate::proofs::Laws::flow_at))]
+fn node_at(plan: &Plan, k: usize) -> Node
+    requires { k < 47 }
+    ensures { result ≡ node_at (tree_of plan.now) k }
+{
+    if k < 31 {
+        class_node(plan, k)
+    } else {
+        flow_node(plan, k - 31)
+    }
 }
 
 // The node of a class; of one that is not described, that of no class.
-fn class_node(plan: Plan, class: usize) -> Node
+fn class_node(plan: &Plan, class: usize) -> Node
     requires { class < 31 }
-    ensures { result ≡ class_node plan class }
+    ensures { result ≡ class_node plan.now class }
 {
     if plan.count <= class as u64 {
-        return new_node(0, 0);
+        new_node(0, 0)
+    } else if class == 0 {
+        new_node(31, plan.weights[class])
+    } else {
+        new_node(plan.parents[class], plan.weights[class])
     }
-    let weights = plan.weights;
-    let weight = weights[class];
-    if class == 0 {
-        return new_node(31, weight);
-    }
-    let parents = plan.parents;
-    let parent = parents[class];
-    new_node(parent, weight)
 }
 
 // The node of a flow, which gets its weight when the flow is opened.
-fn flow_node(plan: Plan, flow: usize) -> Node
+fn flow_node(plan: &Plan, flow: usize) -> Node
     requires { flow < 16 }
-    ensures { result ≡ flow_node plan flow }
+    ensures { result ≡ flow_node plan.now flow }
 {
-    let classes = plan.classes;
-    let class = classes[flow];
-    new_node(class, 0)
+    new_node(plan.classes[flow], 0)
 }
 
 // A node before any packet.
@@ -64,8 +61,8 @@ fn new_node(parent: u64, weight: u64) -> Node
     ensures { result ≡ new_node parent weight }
 {
     Node {
-        parent: parent,
-        weight: weight,
+        parent,
+        weight,
         waiting: 0,
         start: Tag(0),
         finish: Tag(0),

@@ -29,7 +29,7 @@ pub extern "C" fn tuhkeliar_classes_fresh() -> Classes
 pub extern "C" fn tuhkeliar_classes_set_up(lane: Classes, plan: Plan) -> ClassCalled
     ensures { result ≡ planted_of (set_up_of lane plan) }
 {
-    let planted = planting::set_up(lane, plan);
+    let planted = planting::set_up(lane, &plan);
     let next = planted.lane;
     let told = planted.answer;
     let answer = class_plain::planted(told);

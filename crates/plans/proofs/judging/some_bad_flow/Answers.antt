@@ -1,0 +1,14 @@
+-- `some_bad_flow` meets its contract: the test over the flows is the library's over the list of them.
+use Rattle.std.proofs.Common.{◌∙◌, refl, rules}
+use Rattle.std.proofs.lemmas.Iterator.{YieldsList-from_range}
+use Rattle.std.proofs.lemmas.Iterator.Search.{any_from_yields_List}
+use borrow.Author.Tests.{tests}
+use Rattle.plans.specs.Plans.{bad_flow}
+use Rattle.plans.proofs.Judged.{any_listed}
+use Rattle.plans.proofs.judging.some_bad_flow.Goals as goal
+
+pub returns : goal.returns
+returns c =
+    any_from_yields_List (bad_flow c.args.plan.now) _ _ c.any.result c.any.ensures.ran (YieldsList-from_range 0 16 16 refl refl)
+    (λ x b q k. search (rules, tests))
+    ∙ any_listed (bad_flow c.args.plan.now) 0 16
