@@ -1,4 +1,3 @@
-pub mod Loops
-pub mod Gathered
 pub mod Kept
+pub mod Steps
 pub mod Settled

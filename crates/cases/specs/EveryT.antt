@@ -1,10 +1,9 @@
 -- Admission over every count of slots, worked by hand: lists of too high a rate, lists that first fail late, and the order of judging.
-use Rattle.std.specs.Prelude.{◌≡◌, List, [], ◌∷◌, map, ℕ, replicate}
+use Rattle.std.specs.Prelude.{◌≡◌, List, [], ◌∷◌, map, ℕ, replicate, Ok}
 use Rattle.link.specs.Demand.{demand_of, least_failing}
 use Rattle.link.specs.Rate.{rate_of, greatest_of}
 use Rattle.link.specs.Answers.{Said, no}
 use Rattle.link.specs.declared.Declaration.{Declaration}
-use Rattle.link.specs.declared.Verdict.TheVariants.{Admitted}
 use Rattle.cases.specs.Table.{Judged, declared, admitted_said, fails_said, rate_said, judged_said}
 
 -- four declarations that a client made, of rate 5,041: no t to 4,096 fails, and yet demand passes the slots in the end
@@ -64,7 +63,7 @@ lists =
 pub record EveryT : Type 0 where
   pub told : map judged_said lists ≡ map (λ (c : Judged). c.said) lists
   pub client_rate : rate_of client ≡ 5041
-  pub client_early : least_failing 4096 client ≡ Admitted
+  pub client_early : least_failing 4096 client ≡ Ok tt
   pub client_late : demand_of client 5025880 ≡ 5025881
   pub late_rate : rate_of late ≡ 5040
   pub late_greatest : greatest_of late ≡ 815

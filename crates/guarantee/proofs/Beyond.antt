@@ -1,5 +1,6 @@
 -- G2: a plan's slots stand apart, and where every window closes before slot t they are all below t. So it sends at most t cells, and the
 -- heaviest by a t that fails are more. Of an admitted list no slots are too few for the cells that are due in them, and all can be served.
+use Rattle.std.specs.Prelude.{Ok, Err}
 use mathlib.Core.Path.{◌≡◌, ◌∙◌}
 use mathlib.Core.Logic.{◌⊎◌, inl, inr, ◌↔◌}
 use mathlib.Core.List.{List, map}
@@ -9,7 +10,7 @@ use lib.ListN.{length, length-map}
 use Rattle.places.specs.Members.{Each}
 use Rattle.places.proofs.Members.{each_map, each_mapped, each_at}
 use Rattle.link.specs.declared.Declaration.{Declaration}
-use Rattle.link.specs.declared.Verdict.TheVariants.{Admitted, FailsAt, Rate}
+use Rattle.link.specs.declared.Objection.TheVariants.{FailsAt, Rate}
 use Rattle.link.specs.Demand.{demand_of}
 use Rattle.link.specs.Rate.{greatest_of}
 use Rattle.link.specs.Verdicts.{admit_of}
@@ -45,25 +46,25 @@ beyond ds good t more =
           );
     }
 
-pub G2-fails : (ds : List Declaration) (t : ℕ) → admit_of ds ≡ FailsAt t → Beyond ds (heaviest ds t)
+pub G2-fails : (ds : List Declaration) (t : ℕ) → admit_of ds ≡ Err (FailsAt t) → Beyond ds (heaviest ds t)
 G2-fails ds t e = let w = (promises.A1.fails ds t).0 e in beyond ds w.0.within t w.2.fails
 
-pub G2-rate : (ds : List Declaration) → admit_of ds ≡ Rate → Beyond ds (heaviest ds (5041 * greatest_of ds))
+pub G2-rate : (ds : List Declaration) → admit_of ds ≡ Err Rate → Beyond ds (heaviest ds (5041 * greatest_of ds))
 G2-rate ds e = beyond ds ((promises.A1.rate ds).0 e).0.within (5041 * greatest_of ds) (promises.A2.rate_fails ds e)
 
 pub G2-exact : (ds : List Declaration) → Fits ds
-    → (admit_of ds ≡ Admitted) ↔ ((cells : List Arrival) → WithinDeclarations ds cells → Sendable ds cells)
+    → (admit_of ds ≡ Ok tt) ↔ ((cells : List Arrival) → WithinDeclarations ds cells → Sendable ds cells)
 G2-exact ds fits = (served, judged)
   where
-    served : admit_of ds ≡ Admitted → (cells : List Arrival) → WithinDeclarations ds cells → Sendable ds cells
+    served : admit_of ds ≡ Ok tt → (cells : List Arrival) → WithinDeclarations ds cells → Sendable ds cells
     served e cells within =
         let (slots, plan, is-plan, all) = all_served (map (window_in ds) cells) (due_most ds fits ((promises.A1.admitted ds).0 e).1 cells within) in
         (slots, plan, is-plan, all ∙ length-map cells (window_in ds))
 
-    judged : ((cells : List Arrival) → WithinDeclarations ds cells → Sendable ds cells) → admit_of ds ≡ Admitted
+    judged : ((cells : List Arrival) → WithinDeclarations ds cells → Sendable ds cells) → admit_of ds ≡ Ok tt
     judged can = go (promises.A2.somewhere ds fits)
       where
-        go : (admit_of ds ≡ Admitted) ⊎ ((t : ℕ) × (t < demand_of ds t)) → admit_of ds ≡ Admitted
+        go : (admit_of ds ≡ Ok tt) ⊎ ((t : ℕ) × (t < demand_of ds t)) → admit_of ds ≡ Ok tt
         go (inl e) = e
         go (inr (t, more)) =
             let too = beyond ds fits.within t more in

@@ -1,4 +1,5 @@
 -- The examples, computed. The cells keep their declarations, as each flow's are a burst and one cell in each period after it, all a slot later.
+use Rattle.std.specs.Prelude.{Ok}
 use mathlib.Core.Path.{◌≡◌, refl}
 use mathlib.Core.Bool.{true, ◌&&◌}
 use mathlib.Core.List.{List, [], ◌∷◌, map}
@@ -16,7 +17,6 @@ use Rattle.places.specs.Choice.{comes_before, better, least}
 use Rattle.places.specs.Members.{Each}
 use Rattle.places.specs.Marks.{opens, in_force}
 use Rattle.link.specs.declared.Declaration.{Declaration}
-use Rattle.link.specs.declared.Verdict.TheVariants.{Admitted}
 use Rattle.link.specs.Demand.{demand_of, fails_from}
 use Rattle.link.specs.Rate.{rate_of, greatest_of}
 use Rattle.link.specs.Verdicts.{by_numbers, admit_of}
@@ -40,7 +40,7 @@ full : FullDeadlines calls
 unfolding run_from call_of open_of close_of offer_of turn_of open_fair_of open_in offer_packet_of put_of quote_of finish_of first_of count first_free comes_before better least in_force
 full = (refl, (refl, (refl, (refl, (refl, (refl, tt))))))
 
-admitted : admit_of two_flows ≡ Admitted
+admitted : admit_of two_flows ≡ Ok tt
 unfolding by_numbers first_of rate_of greatest_of fails_from demand_of
 admitted = refl
 

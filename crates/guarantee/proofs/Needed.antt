@@ -1,4 +1,5 @@
 -- Each condition left out, computed: the others are met, and one cell is missed. The cells are bursts, which keep their declarations.
+use Rattle.std.specs.Prelude.{Ok}
 use mathlib.Core.Path.{◌≡◌, refl}
 use mathlib.Core.List.{[], ◌∷◌}
 use Prim.Native.Nat.{zero, suc}
@@ -7,7 +8,6 @@ use Rattle.units.specs.Refusals.{first_of}
 use Rattle.places.specs.Places.{count, first_free}
 use Rattle.places.specs.Choice.{comes_before, better, least}
 use Rattle.places.specs.Marks.{opens, in_force}
-use Rattle.link.specs.declared.Verdict.TheVariants.{Admitted}
 use Rattle.link.specs.Demand.{demand_of, fails_from}
 use Rattle.link.specs.Rate.{rate_of, greatest_of}
 use Rattle.link.specs.Verdicts.{by_numbers, admit_of}
@@ -49,11 +49,11 @@ all_open : (count is_lost two_at_once ≡ 0) × (count is_lost pair_at_once ≡ 
 unfolding count
 all_open = (refl, refl, refl)
 
-once_admitted : admit_of at_once ≡ Admitted
+once_admitted : admit_of at_once ≡ Ok tt
 unfolding by_numbers first_of rate_of greatest_of fails_from demand_of
 once_admitted = refl
 
-pair_admitted : admit_of pair ≡ Admitted
+pair_admitted : admit_of pair ≡ Ok tt
 unfolding by_numbers first_of rate_of greatest_of fails_from demand_of
 pair_admitted = refl
 

@@ -1,10 +1,9 @@
 -- Under which conditions no cell is missed, a field a clause of the guarantee, and what it is that none is.
-use Rattle.std.specs.Prelude.{◌≡◌, ◌≢◌, false, List, ◌∷◌, map, ℕ, ◌+◌, ◌-◌, ◌/◌, ◌≤◌, ◌<◌, length}
+use Rattle.std.specs.Prelude.{◌≡◌, ◌≢◌, false, List, ◌∷◌, map, ℕ, ◌+◌, ◌-◌, ◌/◌, ◌≤◌, ◌<◌, length, Ok}
 use Rattle.places.specs.Members.{Each}
 use Rattle.places.specs.Marks.{Mark, opens, closes}
 use Rattle.link.specs.Verdicts.{admit_of}
 use Rattle.link.specs.declared.Declaration.{Declaration}
-use Rattle.link.specs.declared.Verdict.TheVariants.{Admitted}
 use Rattle.station.specs.declared.Call.{Call}
 use Rattle.station.specs.declared.Call.TheVariants.{LostTurn}
 use Rattle.promises_urgent.specs.Cells.{Cell, Cells, is_missed}
@@ -38,7 +37,7 @@ NoneLost calls = Each (λ (call : Call). call ≢ LostTurn) calls
 
 pub record Conditions (ds : List Declaration) (calls : List Call) : Type 0 where
   -- the list is admitted
-  pub admitted : admit_of ds ≡ Admitted
+  pub admitted : admit_of ds ≡ Ok tt
   -- declaration i is that of flow i: each flow is opened with its deadline
   pub opened : OpenedAsDeclared ds calls
   -- each accepted cell has its flow's full deadline

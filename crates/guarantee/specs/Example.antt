@@ -1,11 +1,11 @@
 -- The guarantee is not empty: calls that meet its conditions, and lists that are not admitted.
-use Rattle.std.specs.Prelude.{◌≡◌, List, [], ◌∷◌, map, ℕ, ◌*◌, replicate, None, Some}
+use Rattle.std.specs.Prelude.{◌≡◌, List, [], ◌∷◌, map, ℕ, ◌*◌, replicate, None, Some, Err}
 use Rattle.units.specs.declared.Refusal.TheVariants.{PlacesFull}
 use Rattle.places.specs.Members.{Each}
 use Rattle.link.specs.Rate.{greatest_of}
 use Rattle.link.specs.Verdicts.{admit_of}
 use Rattle.link.specs.declared.Declaration.{Declaration}
-use Rattle.link.specs.declared.Verdict.TheVariants.{FailsAt, Rate}
+use Rattle.link.specs.declared.Objection.TheVariants.{FailsAt, Rate}
 use Rattle.station.specs.declared.Call.{Call}
 use Rattle.station.specs.declared.Call.TheVariants.{OpenUrgent, CloseUrgent, OfferCell, OpenFair, CloseFair, OfferPacket, Begin, End, OpenTurn}
 use Rattle.station.specs.Answers.{refusal_in}
@@ -93,8 +93,8 @@ pub record Sixteenth : Type 0 where
 
 -- case K fails at 1: two cells arrive in slot 0, and both have to go in slot 0; and the client's list is too fast
 pub record TooMuch : Type 0 where
-  pub fails : admit_of case_k ≡ FailsAt 1
+  pub fails : admit_of case_k ≡ Err (FailsAt 1)
   pub cells : heaviest case_k 1 ≡ cell 0 0 ∷ cell 1 0 ∷ []
   pub windows : map (window_in case_k) (heaviest case_k 1) ≡ window_from 0 1 ∷ window_from 0 1 ∷ []
-  pub rate : admit_of too_fast ≡ Rate
+  pub rate : admit_of too_fast ≡ Err Rate
   pub by : 5041 * greatest_of too_fast ≡ 5041000

@@ -1,13 +1,13 @@
 -- What a client is sold: flows that keep an admitted list, with their full deadlines on all cells, lose none, and for a list that fails or is too fast
 -- there are cells within it that nobody could send in time.
-use Rattle.std.specs.Prelude.{◌≡◌, ◌≢◌, ◌↔◌, List, ◌++◌, map, ℕ, ◌*◌, ◌<◌, length, Some}
+use Rattle.std.specs.Prelude.{◌≡◌, ◌≢◌, ◌↔◌, List, ◌++◌, map, ℕ, ◌*◌, ◌<◌, length, Some, Ok, Err}
 use Rattle.units.specs.declared.Refusal.TheVariants.{PlacesFull}
 use Rattle.places.specs.Members.{Each}
 use Rattle.link.specs.Rate.{greatest_of}
 use Rattle.link.specs.Verdicts.{admit_of}
 use Rattle.link.specs.Published.{Fits, Within}
 use Rattle.link.specs.declared.Declaration.{Declaration}
-use Rattle.link.specs.declared.Verdict.TheVariants.{Admitted, FailsAt, Rate}
+use Rattle.link.specs.declared.Objection.TheVariants.{FailsAt, Rate}
 use Rattle.station.specs.declared.Call.{Call}
 use Rattle.station.specs.declared.Call.TheVariants.{OfferCell}
 use Rattle.station.specs.Answers.{refusal_in}
@@ -50,12 +50,12 @@ pub record Guarantee : Type 0 where
   -- as the sixteenth of sixteen is not
   pub G1-sixteenth : Sixteenth
   -- G2: of a list that fails at t the heaviest cells by t are within the declarations, and nobody could send them all
-  pub G2-fails : (ds : List Declaration) (t : ℕ) → admit_of ds ≡ FailsAt t → Beyond ds (heaviest ds t)
+  pub G2-fails : (ds : List Declaration) (t : ℕ) → admit_of ds ≡ Err (FailsAt t) → Beyond ds (heaviest ds t)
   -- and of a list of too high a rate those by 5,041 times its greatest deadline
-  pub G2-rate : (ds : List Declaration) → admit_of ds ≡ Rate → Beyond ds (heaviest ds (5041 * greatest_of ds))
+  pub G2-rate : (ds : List Declaration) → admit_of ds ≡ Err Rate → Beyond ds (heaviest ds (5041 * greatest_of ds))
   -- so a list within its limits is admitted exactly where all cells within its declarations could be sent, whichever they are
   pub G2-exact :
       (ds : List Declaration) → Fits ds
-      → (admit_of ds ≡ Admitted) ↔ ((cells : List Arrival) → WithinDeclarations ds cells → Sendable ds cells)
+      → (admit_of ds ≡ Ok tt) ↔ ((cells : List Arrival) → WithinDeclarations ds cells → Sendable ds cells)
   -- there are lists that are not admitted, case K among them
   pub G2-met : TooMuch

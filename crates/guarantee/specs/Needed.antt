@@ -1,8 +1,7 @@
 -- No condition of the guarantee can be left out: for each there are calls that meet the five others, and a cell is missed.
-use Rattle.std.specs.Prelude.{◌≡◌, List, [], ◌∷◌}
+use Rattle.std.specs.Prelude.{◌≡◌, List, [], ◌∷◌, Ok}
 use Rattle.link.specs.Verdicts.{admit_of}
 use Rattle.link.specs.declared.Declaration.{Declaration}
-use Rattle.link.specs.declared.Verdict.TheVariants.{Admitted}
 use Rattle.station.specs.declared.Call.{Call}
 use Rattle.station.specs.declared.Call.TheVariants.{OpenUrgent, OfferCell, OpenTurn, LostTurn}
 use Rattle.promises.specs.Run.{run}
@@ -49,7 +48,7 @@ pub record Needed : Type 0 where
       × OneMissed two_at_once
   -- a flow opened with a shorter deadline than declared
   pub opened :
-      (admit_of pair ≡ Admitted)
+      (admit_of pair ≡ Ok tt)
       × FullDeadlines pair_at_once
       × NoOthers pair (arrivals pair_at_once)
       × AllKeep pair (arrivals pair_at_once)
@@ -57,7 +56,7 @@ pub record Needed : Type 0 where
       × OneMissed pair_at_once
   -- two cells with a shorter deadline than their flow's
   pub full :
-      (admit_of pair ≡ Admitted)
+      (admit_of pair ≡ Ok tt)
       × OpenedAsDeclared pair pair_cut_short
       × NoOthers pair (arrivals pair_cut_short)
       × AllKeep pair (arrivals pair_cut_short)
@@ -65,7 +64,7 @@ pub record Needed : Type 0 where
       × OneMissed pair_cut_short
   -- a cell of a flow that is not declared
   pub others :
-      (admit_of at_once ≡ Admitted)
+      (admit_of at_once ≡ Ok tt)
       × OpenedAsDeclared at_once two_at_once
       × FullDeadlines two_at_once
       × AllKeep at_once (arrivals two_at_once)
@@ -73,7 +72,7 @@ pub record Needed : Type 0 where
       × OneMissed two_at_once
   -- a flow with one cell more than its declaration allows
   pub keep :
-      (admit_of at_once ≡ Admitted)
+      (admit_of at_once ≡ Ok tt)
       × OpenedAsDeclared at_once pair_at_once
       × FullDeadlines pair_at_once
       × NoOthers at_once (arrivals pair_at_once)
@@ -81,7 +80,7 @@ pub record Needed : Type 0 where
       × OneMissed pair_at_once
   -- a lost turn
   pub turns :
-      (admit_of at_once ≡ Admitted)
+      (admit_of at_once ≡ Ok tt)
       × OpenedAsDeclared at_once lost_at_once
       × FullDeadlines lost_at_once
       × NoOthers at_once (arrivals lost_at_once)

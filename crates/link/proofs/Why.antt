@@ -1,4 +1,5 @@
 -- The verdict on a list, and why.
+use Rattle.std.specs.Prelude.{Ok, Err}
 use mathlib.Core.Path.{◌≡◌, refl}
 use mathlib.Core.Bool.{Bool, true, false}
 use mathlib.Core.List.{List}
@@ -11,8 +12,8 @@ use lib.ListN.{length, get_or}
 use Rattle.units.specs.declared.Refusal.{Refusal}
 use Rattle.units.specs.declared.Refusal.TheVariants.{NoSuchFlow, NotOpen, AlreadyOpen, PlacesFull, TagsUsedUp, SlotsUsedUp, PacketInService, NothingWaits, NothingInService, NoCommand, FlowInUse, BadWeight, BadLength, ListTooLong, BadBurst, BadPeriod, BadDeadline, BadTree}
 use Rattle.link.specs.declared.Declaration.{Declaration}
-use Rattle.link.specs.declared.Verdict.{Verdict}
-use Rattle.link.specs.declared.Verdict.TheVariants.{Admitted, FailsAt, Rate, Refused, RefusedAt}
+use Rattle.link.specs.Verdict.{Verdict}
+use Rattle.link.specs.declared.Objection.TheVariants.{FailsAt, Rate, Refused, RefusedAt}
 use Rattle.link.specs.Limits.{too_long, no_declaration}
 use Rattle.link.specs.Demand.{demand_of, least_failing}
 use Rattle.link.specs.Rate.{rate_of, greatest_of}
@@ -27,13 +28,13 @@ use Rattle.link.proofs.Searched.{Searched, none, searched}
 use Rattle.link.proofs.Searched.{one as first}
 
 pub data Why (ds : List Declaration) : Verdict → Type 0 where
-  long : 16 < length ds → Why ds (Refused ListTooLong)
-  bad17 : (k : ℕ) → FirstBad BurstBad ds k → Why ds (RefusedAt BadBurst k)
-  bad18 : (k : ℕ) → FirstBad PeriodBad ds k → Why ds (RefusedAt BadPeriod k)
-  bad14 : (k : ℕ) → FirstBad DeadlineBad ds k → Why ds (RefusedAt BadDeadline k)
-  admitted : Fits ds → Keeps ds → Why ds Admitted
-  fast : Fits ds → 5040 < rate_of ds → Why ds Rate
-  failing : (t : ℕ) → Fits ds → rate_of ds ≤ 5040 → Least ds t → t < greatest_of ds + 5039 → Why ds (FailsAt t)
+  long : 16 < length ds → Why ds (Err (Refused ListTooLong))
+  bad17 : (k : ℕ) → FirstBad BurstBad ds k → Why ds (Err (RefusedAt BadBurst k))
+  bad18 : (k : ℕ) → FirstBad PeriodBad ds k → Why ds (Err (RefusedAt BadPeriod k))
+  bad14 : (k : ℕ) → FirstBad DeadlineBad ds k → Why ds (Err (RefusedAt BadDeadline k))
+  admitted : Fits ds → Keeps ds → Why ds (Ok tt)
+  fast : Fits ds → 5040 < rate_of ds → Why ds (Err Rate)
+  failing : (t : ℕ) → Fits ds → rate_of ds ≤ 5040 → Least ds t → t < greatest_of ds + 5039 → Why ds (Err (FailsAt t))
 
 -- what holds from slot 1 on holds of slot 0 too
 pub all_before : (ds : List Declaration) → Fits ds → (u : ℕ) → ((s : ℕ) → 1 ≤ s → s < u → demand_of ds s ≤ s) → (s : ℕ) → s < u → demand_of ds s ≤ s
@@ -49,7 +50,7 @@ why_tested ds fit slow (first u f l r d w) =
     let least : Least ds u = record { fails = d; first = all_before ds fit u w } in
     rw f (failing u fit slow least (not_last ds fit slow u least (omega arith)))
 
-why_rated : (ds : List Declaration) → Fits ds → by_numbers 0 ds ≡ Admitted → Dec (5040 < rate_of ds) → Why ds (judged_of false ds)
+why_rated : (ds : List Declaration) → Fits ds → by_numbers 0 ds ≡ Ok tt → Dec (5040 < rate_of ds) → Why ds (judged_of false ds)
 why_rated ds fit e (yes l) = rw (judged_fast ds e l) (fast fit l)
 why_rated ds fit e (no l) = rw (judged_slow ds e (omega arith)) (why_tested ds fit (omega arith) (searched (horizon_of ds) 1 ds))
 
@@ -58,7 +59,7 @@ why_found ds few _ q (nothing ws) = why_rated ds (record { few = few; within = w
 why_found ds few _ q (one refusal k place e l ws x) =
     let p : place ≡ k = omega arith in rw (judged_bad ds refusal place q, p) (go refusal x)
   where
-    go : (r : Refusal) → Reason (get_or ds k no_declaration) (Some r) → Why ds (RefusedAt r k)
+    go : (r : Refusal) → Reason (get_or ds k no_declaration) (Some r) → Why ds (Err (RefusedAt r k))
     go BadBurst (burst b) = bad17 k (record { few = few; place = l; bad = b; before = ws })
     go BadPeriod (period b) = bad18 k (record { few = few; place = l; bad = b; before = ws })
     go BadDeadline (deadline b) = bad14 k (record { few = few; place = l; bad = b; before = ws })

@@ -1,17 +1,17 @@
 -- What each verdict tells: its word, and the number and the values that the rules give for it.
-use Rattle.std.specs.Prelude.{List, [], ◌∷◌, ℕ}
+use Rattle.std.specs.Prelude.{List, [], ◌∷◌, ℕ, Ok, Err}
 use Rattle.units.specs.Refusals.{number_of}
 use Rattle.units.specs.Answers.{Told, refusal, values}
-use Rattle.link.specs.declared.Verdict.{Verdict}
-use Rattle.link.specs.declared.Verdict.TheVariants.{Admitted, FailsAt, Rate, Refused, RefusedAt}
+use Rattle.link.specs.Verdict.{Verdict}
+use Rattle.link.specs.declared.Objection.TheVariants.{FailsAt, Rate, Refused, RefusedAt}
 
 -- failing: the smallest t that fails; refused for a declaration: its place in the list, from 0
 abbrev pub told : Verdict → Told
-told Admitted = values []
-told (FailsAt t) = values (t ∷ [])
-told Rate = values []
-told (Refused r) = refusal r
-told (RefusedAt r k) = record { number = number_of r; values = k ∷ [] }
+told (Ok done) = values []
+told (Err (FailsAt t)) = values (t ∷ [])
+told (Err Rate) = values []
+told (Err (Refused r)) = refusal r
+told (Err (RefusedAt r k)) = record { number = number_of r; values = k ∷ [] }
 
 -- the words: without one, rate would be told as admitted is
 pub data Word : Type 0 where
@@ -21,11 +21,11 @@ pub data Word : Type 0 where
   no : Word
 
 abbrev pub word_of : Verdict → Word
-word_of Admitted = admitted
-word_of (FailsAt t) = fails
-word_of Rate = rate
-word_of (Refused r) = no
-word_of (RefusedAt r k) = no
+word_of (Ok done) = admitted
+word_of (Err (FailsAt t)) = fails
+word_of (Err Rate) = rate
+word_of (Err (Refused r)) = no
+word_of (Err (RefusedAt r k)) = no
 
 -- a verdict in full: its word, its number and its values
 pub record Said : Type 0 where

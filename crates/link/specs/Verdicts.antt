@@ -1,5 +1,5 @@
 -- The verdict on a list: its length is judged first, then the numbers of each declaration, then its rate, then its demand.
-use Rattle.std.specs.Prelude.{Bool, true, false, cond, List, [], ◌∷◌, ℕ, suc, ◌+◌, ltb, Option, None, Some}
+use Rattle.std.specs.Prelude.{Bool, true, false, cond, List, [], ◌∷◌, ℕ, suc, ◌+◌, ltb, Option, None, Some, Ok, Err}
 use Rattle.units.specs.Limits.{bad_deadline}
 use Rattle.units.specs.Refusals.{Ground, first_of}
 use Rattle.units.specs.declared.Refusal.{Refusal}
@@ -8,16 +8,13 @@ use Rattle.link.specs.Limits.{bad_burst, bad_period, too_long}
 use Rattle.link.specs.Demand.{least_failing}
 use Rattle.link.specs.Rate.{rate_of, greatest_of}
 use Rattle.link.specs.declared.Declaration.{Declaration}
-use Rattle.link.specs.declared.Verdict.{Verdict}
-use Rattle.link.specs.declared.Verdict.TheVariants.{Admitted, FailsAt, Rate, Refused, RefusedAt}
+use Rattle.link.specs.Verdict.{Verdict}
+use Rattle.link.specs.declared.Objection.TheVariants.{Rate, Refused, RefusedAt}
 
 -- whether a verdict holds nothing against the list
 abbrev pub admits : Verdict → Bool
-admits Admitted = true
-admits (FailsAt t) = false
-admits Rate = false
-admits (Refused refusal) = false
-admits (RefusedAt refusal k) = false
+admits (Ok done) = true
+admits (Err objection) = false
 
 -- the first of two verdicts that holds something against the list
 abbrev pub or_else : Verdict → Verdict → Verdict
@@ -25,7 +22,7 @@ or_else verdict later = cond (admits verdict) later verdict
 
 -- by the length alone, told whether the list is too long
 abbrev pub by_length : Bool → Verdict
-by_length long = cond long (Refused ListTooLong) Admitted
+by_length long = cond long (Err (Refused ListTooLong)) (Ok tt)
 
 -- what a declaration is refused for, in the order in which its numbers are judged
 abbrev pub declaration_grounds : Declaration → List Ground
@@ -33,8 +30,8 @@ declaration_grounds d = (BadBurst, bad_burst d.burst) ∷ (BadPeriod, bad_period
 
 -- by what the declaration in place k is refused for, if anything
 abbrev pub refused_at : ℕ → Option Refusal → Verdict
-refused_at k None = Admitted
-refused_at k (Some refusal) = RefusedAt refusal k
+refused_at k None = Ok tt
+refused_at k (Some refusal) = Err (RefusedAt refusal k)
 
 -- by the numbers of the declaration in place k alone
 abbrev pub by_declaration : ℕ → Declaration → Verdict
@@ -42,12 +39,12 @@ by_declaration k d = refused_at k (first_of (declaration_grounds d))
 
 -- by the numbers alone, of declarations that stand in the places from k on: the first bad declaration is told, with its place
 unfoldable pub by_numbers : ℕ → List Declaration → Verdict
-by_numbers k [] = Admitted
+by_numbers k [] = Ok tt
 by_numbers k (d ∷ ds) = or_else (by_declaration k d) (by_numbers (suc k) ds)
 
 -- by the rate alone: no list of more than 5,040 cells in every 5,040 slots is kept up with
 abbrev pub by_rate : List Declaration → Verdict
-by_rate ds = cond (ltb 5040 (rate_of ds)) Rate Admitted
+by_rate ds = cond (ltb 5040 (rate_of ds)) (Err Rate) (Ok tt)
 
 -- how far the demand is tested, in slots
 abbrev pub horizon_of : List Declaration → ℕ

@@ -2,13 +2,14 @@
 #![tactic(auto)]
 
 ghost use Rattle.std.specs.Prelude.{◌≡◌, ◌/◌};
+ghost use Rattle.units.specs.Refusals.{first_of};
 ghost use Rattle.link.specs.Limits.{bad_period};
-ghost use Rattle.link.specs.Verdicts.{admits, by_declaration};
+ghost use Rattle.link.specs.Verdicts.{declaration_grounds, by_declaration};
 
 use units::Refusal;
 
 // What a flow declares: burst cells at once and one more in each period, each wanted within deadline slots.
-#[derive(Clone, Copy)]
+#[derive(Clone, Copy, Debug, PartialEq, Eq)]
 pub struct Declaration {
     pub burst: u64,
     pub period: u64,
@@ -16,47 +17,41 @@ pub struct Declaration {
 }
 
 impl Declaration {
-    // The verdict by the numbers of one declaration, which stands in this place: its burst is judged first, then its period, then its deadline.
-    pub fn judged(self, place: usize) -> Verdict
-        ensures { result ≡ by_declaration place self }
+    // What one declaration is refused for, if anything: its burst is judged first, then its period, then its deadline.
+    #[tactic(auto, unfolding(units::specs::Refusals::first_of))]
+    fn fault(self) -> Option<Refusal>
+        ensures { result ≡ first_of (declaration_grounds self) }
     {
         if units::outside(self.burst, 16) {
-            return Verdict::RefusedAt(Refusal::BadBurst, place);
+            Some(Refusal::BadBurst)
+        } else if bad_period(self.period) {
+            Some(Refusal::BadPeriod)
+        } else if units::bad_deadline(self.deadline) {
+            Some(Refusal::BadDeadline)
+        } else {
+            None
         }
-        if bad_period(self.period) {
-            return Verdict::RefusedAt(Refusal::BadPeriod, place);
+    }
+
+    // The verdict by the numbers of one declaration, which stands in this place.
+    pub fn judged(self, place: usize) -> Result<(), Objection>
+        ensures { result ≡ by_declaration place self }
+    {
+        match self.fault() {
+            Some(refusal) => Err(Objection::RefusedAt(refusal, place)),
+            None => Ok(()),
         }
-        if units::bad_deadline(self.deadline) {
-            return Verdict::RefusedAt(Refusal::BadDeadline, place);
-        }
-        Verdict::Admitted
     }
 }
 
-// The answer to a list: admitted, the smallest slot count by which too much is due, that its periods bring more cells than there are
-// slots, the refusal of a list that is too long, or the refusal of the first bad declaration with its place, from 0.
+// What is held against a list that is not admitted: the smallest slot count by which too much is due, that its periods bring more cells
+// than there are slots, the refusal of a list that is too long, or the refusal of the first bad declaration with its place, from 0.
 #[derive(Clone, Copy)]
-pub enum Verdict {
-    Admitted,
+pub enum Objection {
     FailsAt(u64),
     Rate,
     Refused(Refusal),
     RefusedAt(Refusal, usize),
-}
-
-impl Verdict {
-    // Whether nothing is held against the list so far.
-    pub fn admits(self) -> bool
-        ensures { result ≡ admits self }
-    {
-        match self {
-            Verdict::Admitted => true,
-            Verdict::FailsAt(_) => false,
-            Verdict::Rate => false,
-            Verdict::Refused(_) => false,
-            Verdict::RefusedAt(_, _) => false,
-        }
-    }
 }
 
 // How many whole periods have passed after so many slots, none for a period of 0; by doubling and halving: the board has no divider.
@@ -73,19 +68,18 @@ pub fn floor_of(slots: u64, period: u64) -> u64
     let mut part = period;
     let mut steps: u64 = 0;
     while part <= half {
-        part = part << 1;
+        part <<= 1;
         steps += 1;
     }
     let mut quotient = 1;
     let mut left = slots - part;
-    while 0 < steps {
-        part = part >> 1;
-        quotient = quotient << 1;
+    for _ in 0..steps {
+        part >>= 1;
+        quotient <<= 1;
         if part <= left {
             left -= part;
             quotient += 1;
         }
-        steps -= 1;
     }
     quotient
 }
@@ -94,8 +88,5 @@ pub fn floor_of(slots: u64, period: u64) -> u64
 fn bad_period(period: u64) -> bool
     ensures { result ≡ bad_period period }
 {
-    if period < 1 {
-        return true;
-    }
-    0 < 5040 - floor_of(5040, period) * period
+    period < 1 || floor_of(5040, period) * period < 5040
 }

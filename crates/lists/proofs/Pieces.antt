@@ -3,7 +3,7 @@
 use mathlib.Core.Path.{◌≡◌, refl, sym, ◌∙◌, ap}
 use mathlib.Core.Bool.{Bool, true, false, cond, ◌&&◌, false≢true}
 use mathlib.Core.List.{List, [], ◌∷◌, ◌++◌, append_assoc, append-nil}
-use Rattle.std.proofs.Common.{None, Some}
+use Rattle.std.proofs.Common.{None, Some, Err}
 use Prim.Native.Nat.{ℕ, ◌+◌, ◌<◌, min}
 use native.Mathlib.Decide.{dec_lt}
 use native.Mathlib.Numerals.{add-one}
@@ -14,7 +14,7 @@ use lib.ListN.{length, take, length-append, length-set}
 use lib.Seq.{take_all, take-suc-set, take-append-le, length-take-le}
 use Rattle.link.specs.declared.Declaration.{Declaration}
 use Rattle.units.specs.declared.Refusal.TheVariants.{NoCommand}
-use Rattle.link.specs.declared.Verdict.TheVariants.{Refused}
+use Rattle.link.specs.declared.Objection.TheVariants.{Refused}
 use Rattle.link.specs.Verdicts.{admit_of}
 use Rattle.text.specs.Reading.{blank}
 use Rattle.text.specs.Lines.{line_feed}
@@ -86,7 +86,7 @@ judged_same r whole k z = go r.hand.some refl (whole_at r.hand)
     d = declared r.hand
 
     go : (t : Bool) → r.hand.some ≡ t → (u : Bool)
-        → cond t (cond u (admit_of (kept_by (cond u (put_of r d) r))) (Refused NoCommand)) (admit_of []) ≡ verdict_of (cond t (cond u (Some (whole ++ d ∷ [])) None) (Some whole))
+        → cond t (cond u (admit_of (kept_by (cond u (put_of r d) r))) (Err (Refused NoCommand))) (admit_of []) ≡ verdict_of (cond t (cond u (Some (whole ++ d ∷ [])) None) (Some whole))
     go true p true = keeps_admits (put_of r d) (whole ++ d ∷ []) (put_keeps r whole d k)
     go true p false = refl
     go false p u = ap admit_of (sym (z p))

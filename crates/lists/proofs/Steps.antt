@@ -7,7 +7,7 @@ use borrow.Author.Tests.{eq-eqb, ne_eqb}
 use Rattle.text.specs.Lines.{line_feed, Printed}
 use Rattle.text.specs.Feeding.{Step}
 use Rattle.text.proofs.Feeding.{Going, printed_nothing}
-use Rattle.link.specs.declared.Verdict.{Verdict}
+use Rattle.link.specs.Verdict.{Verdict}
 use Rattle.lists.specs.declared.Reading.{Reading}
 use Rattle.lists.specs.Printing.{longest, verdict_line}
 use Rattle.lists.specs.Steps.{fresh_reading, keeping_of, judged_by, step_of, finish_of}

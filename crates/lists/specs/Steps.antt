@@ -1,9 +1,9 @@
 -- The reading of lists, byte by byte, as the program keeps it: of a list no more than seventeen declarations.
-use Rattle.std.specs.Prelude.{cond, List, [], ℕ, ◌+◌, min, eqb, ltb, take, set, replicate}
+use Rattle.std.specs.Prelude.{cond, List, [], ℕ, ◌+◌, min, eqb, ltb, take, set, replicate, Err}
 use Rattle.units.specs.declared.Refusal.TheVariants.{NoCommand}
 use Rattle.link.specs.declared.Declaration.{Declaration}
-use Rattle.link.specs.declared.Verdict.{Verdict}
-use Rattle.link.specs.declared.Verdict.TheVariants.{Refused}
+use Rattle.link.specs.Verdict.{Verdict}
+use Rattle.link.specs.declared.Objection.TheVariants.{Refused}
 use Rattle.link.specs.Limits.{no_declaration}
 use Rattle.link.specs.Verdicts.{admit_of}
 use Rattle.text.specs.Reading.{blank}
@@ -42,7 +42,7 @@ kept_by r = take (min r.count 17) r.items
 abbrev pub judged_by : Reading → Verdict
 judged_by r =
     cond r.hand.some
-    (cond (whole_at r.hand) (admit_of (kept_by (filled_of r))) (Refused NoCommand))
+    (cond (whole_at r.hand) (admit_of (kept_by (filled_of r))) (Err (Refused NoCommand)))
     (admit_of [])
 
 -- one byte: a line feed ends the line, which is answered, and the next one begins

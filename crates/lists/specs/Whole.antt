@@ -1,9 +1,9 @@
 -- A whole input of lists, bytes to bytes: what a reader of the output may expect of its input.
-use Rattle.std.specs.Prelude.{List, [], ◌∷◌, ◌++◌, ℕ, Option, None, Some}
+use Rattle.std.specs.Prelude.{List, [], ◌∷◌, ◌++◌, ℕ, Option, None, Some, Err}
 use Rattle.units.specs.declared.Refusal.TheVariants.{NoCommand}
 use Rattle.link.specs.declared.Declaration.{Declaration}
-use Rattle.link.specs.declared.Verdict.{Verdict}
-use Rattle.link.specs.declared.Verdict.TheVariants.{Refused}
+use Rattle.link.specs.Verdict.{Verdict}
+use Rattle.link.specs.declared.Objection.TheVariants.{Refused}
 use Rattle.link.specs.Verdicts.{admit_of}
 use Rattle.text.specs.Input.{lines_of}
 use Rattle.lists.specs.Reading.{read_list}
@@ -11,7 +11,7 @@ use Rattle.lists.specs.Printing.{verdict_line}
 
 -- the verdict on what a line is read as; a line that is no list is refused as any line that is none
 abbrev pub verdict_of : Option (List Declaration) → Verdict
-verdict_of None = Refused NoCommand
+verdict_of None = Err (Refused NoCommand)
 verdict_of (Some ds) = admit_of ds
 
 -- the line that a line is answered

@@ -6,20 +6,20 @@ ghost use Rattle.lists.specs.Steps.{judged_by};
 ghost use Rattle.lists.specs.Printing.{verdict_line};
 
 use crate::Reading;
-use link::{Declaration, Verdict};
+use link::{Declaration, Objection};
 use units::Refusal;
 
 impl Reading {
     // The verdict on the line, were it at its end: an empty line is the empty list, and one that is no list is refused.
-    pub(crate) fn judged(self) -> Verdict
+    pub(crate) fn judged(self) -> Result<(), Objection>
         ensures { result ≡ judged_by self }
     {
         let hand = self.hand;
         if !hand.some {
-            return Verdict::Admitted;
+            return Ok(());
         }
         if !hand.whole() {
-            return Verdict::Refused(Refusal::NoCommand);
+            return Err(Objection::Refused(Refusal::NoCommand));
         }
         let filled = self.filled();
         let items = filled.items;
@@ -32,7 +32,7 @@ impl Reading {
 }
 
 // The first count declarations, lent for the test.
-fn lend(items: [Declaration; 17], count: usize) -> Verdict
+fn lend(items: [Declaration; 17], count: usize) -> Result<(), Objection>
     requires { count ≤ 17 }
     ensures { result ≡ admit_of (take count items) }
 {
@@ -40,16 +40,16 @@ fn lend(items: [Declaration; 17], count: usize) -> Verdict
 }
 
 // Puts the line of a verdict into the output at a place, and answers the place after it.
-pub(crate) fn print(verdict: Verdict, out: &mut [u8], at: usize) -> usize
+pub(crate) fn print(verdict: Result<(), Objection>, out: &mut [u8], at: usize) -> usize
     requires { at + 96 ≤ length out.old }
     ensures { Put (verdict_line verdict) out.old at out.new result }
 {
     match verdict {
-        Verdict::Admitted => text::line(out, at, b"admitted", [0, 0, 0], 0),
-        Verdict::FailsAt(t) => text::line(out, at, b"fails", [t, 0, 0], 1),
-        Verdict::Rate => text::line(out, at, b"rate", [0, 0, 0], 0),
-        Verdict::Refused(refusal) => text::line(out, at, b"no", [refusal.number(), 0, 0], 1),
-        Verdict::RefusedAt(refusal, k) => text::line(
+        Ok(()) => text::line(out, at, b"admitted", [0, 0, 0], 0),
+        Err(Objection::FailsAt(t)) => text::line(out, at, b"fails", [t, 0, 0], 1),
+        Err(Objection::Rate) => text::line(out, at, b"rate", [0, 0, 0], 0),
+        Err(Objection::Refused(refusal)) => text::line(out, at, b"no", [refusal.number(), 0, 0], 1),
+        Err(Objection::RefusedAt(refusal, k)) => text::line(
             out,
             at,
             b"no",

@@ -1,8 +1,9 @@
--- `admission::admit` meets its contract: the table gathered decides as the list does.
-use Rattle.std.proofs.Common.{ap, ◌∙◌}
-use Rattle.admission.specs.Tables.{decide_of}
-use Rattle.admission.proofs.Gathered.{gathered}
+-- `admit` meets its contract: what is not held against the list lets its demand be summed.
+use Rattle.std.proofs.Common.{sym, ◌∙◌}
+use Rattle.admission.proofs.Settled.{few, short, soon}
 use Rattle.admission.proofs.admit.Goals as goal
 
-pub returns : goal.returns
-returns c = c.decide.ensures ∙ ap decide_of c.gather.ensures ∙ gathered c.args.list.now
+pub tested-requires : goal.tested-requires
+tested-requires c =
+    let none = sym c.grounds.ensures ∙ c.in_ok-grounds.was in
+    record { few = few c.args.list.now none; short = short c.args.list.now none; soon = soon c.args.list.now none }

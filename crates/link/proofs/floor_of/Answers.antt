@@ -1,5 +1,5 @@
 -- `link::floor_of` meets its contract: the steps of both loops are the lemmas of `Floors`.
-use Rattle.std.proofs.Common.{◌<◌, arith}
+use Rattle.std.proofs.Common.{◌≡◌, ℕ, ◌+◌, ◌-◌, ◌<◌, arith}
 use Rattle.link.proofs.Floors.{doubled, none_doubled, once_more, shift_fits, goes_in, goes_not, settled}
 use Rattle.link.proofs.floor_of.Goals as goal
 use Rattle.link.proofs.floor_of.Goals.{then-part-left, else-part-left}
@@ -12,15 +12,17 @@ loop-part-preserved c =
     let i = c.loop-part in
     rw (doubled i.part (omega arith)) (once_more i.steps _ i.part i.invariant.0, omega arith, omega arith, omega arith)
 
-pub loop-steps-preserved : goal.loop-steps-preserved
-loop-steps-preserved c =
-    let i = c.loop-steps in
-    let more : 0 < i.steps = c.loop-steps-test.true in
+pub loop-preserved : goal.loop-preserved
+loop-preserved c =
+    let i = c.loop in
+    let left : ℕ = c.loop-part.steps - i.counter in
+    let more : 0 < left = omega arith in
+    let fewer : c.loop-part.steps - (i.counter + 1) ≡ left - 1 = omega arith in
     let d = doubled i.quotient (omega (arith, shift_fits i.invariant more)) in
     elim c.if-part-left.branch [
-      | then-part-left w ↦ rw (w.quotient-is, w.left-is) (goes_in i.invariant more _ d (omega (arith, w.if-part-left.true)))
-      | else-part-left w ↦ rw (w.quotient-is, w.left-is) (goes_not i.invariant more _ d (omega (arith, w.if-part-left.false)))
+      | then-part-left w ↦ rw (w.quotient-is, w.left-is, fewer) (goes_in i.invariant more _ d (omega (arith, w.if-part-left.true)))
+      | else-part-left w ↦ rw (w.quotient-is, w.left-is, fewer) (goes_not i.invariant more _ d (omega (arith, w.if-part-left.false)))
     ]
 
 pub returns : goal.returns
-returns c = settled c.loop-steps.invariant (omega arith)
+returns c = settled c.loop.invariant (omega arith)
