@@ -4,7 +4,7 @@ use mathlib.Core.Path.{◌≡◌, refl}
 use Rattle.std.proofs.Common.{Some}
 use Prim.Native.Nat.{ℕ}
 use Rattle.shapes.specs.declared.Shape.{Shape}
-use Rattle.shapes.specs.declared.Shape.TheVariants.{Word, One, Two, Other}
+use Rattle.shapes.specs.declared.Shape.TheVariants.{Word, One, Two}
 use Rattle.shapes.proofs.Calls.{chosen, Tells, reads, fits}
 use Rattle.classes.specs.declared.Call.TheVariants.{Open, Close, Offer, Begin, End}
 use Rattle.class_desk.specs.declared.Command.{Command}
@@ -58,7 +58,6 @@ told : (s : Shape) (c : Command) → command_in s ≡ Some c → s ≡ shaped c
 told (Word letter) c e = word_told letter c e
 told (One letter a) c e = one_told letter a c e
 told (Two letter a b) c e = two_told letter a b c e
-told Other c e = absurd (none-some c e)
 
 pub reads_one_text : ReadsOneText
 reads_one_text = reads shaped command_in text_of Small tells told

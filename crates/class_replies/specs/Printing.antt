@@ -1,18 +1,13 @@
 -- The line that each reply of a desk is written as: a word and its numbers.
-use Rattle.std.specs.Prelude.{cond, List, [], ◌∷◌, map, ℕ, take}
+use Rattle.std.specs.Prelude.{List, [], ◌∷◌, ℕ}
 use Rattle.units.specs.declared.Refusal.TheVariants.{NoCommand}
 use Rattle.units.specs.Refusals.{number_of}
 use Rattle.text.specs.Decimal.{decimal_of}
-use Rattle.text.specs.Lines.{ok_word, no_word, line_with, refusal_line}
+use Rattle.text.specs.Lines.{ok_word, line_with, refusal_line}
 use Rattle.classes.specs.declared.Answer as lane
 use Rattle.classes.specs.declared.Answer.TheVariants.{Refused as Refused', Opened, Closed, Taken, Begun, Ended}
 use Rattle.class_desk.specs.declared.Reply.{Reply}
 use Rattle.class_desk.specs.declared.Reply.TheVariants.{Noted, Refused, Answered}
-use Rattle.class_replies.specs.declared.telling.Told.{Told}
-
--- `ok`, or `no` for a refusal, and the first count of the numbers
-abbrev pub told_line : Told → List ℕ
-told_line t = line_with (cond t.refused no_word ok_word) (map decimal_of (take t.count t.numbers))
 
 -- what a line that is no command is answered
 abbrev pub no_command_line : List ℕ

@@ -1,31 +1,22 @@
 // The session of the class program: bytes are cut into lines, each line is answered by the desk, and the replies are written as lines.
 #![tactic(auto)]
 
-mod answering;
-
 ghost use Rattle.std.specs.Prelude.{◌≡◌};
 ghost use Rattle.text.specs.Lines.{Printed};
 ghost use Rattle.text.specs.Feeding.{FeedsBy};
 ghost use Rattle.class_replies.specs.Printing.{longest};
-ghost use Rattle.class_session.specs.Steps.{fresh_session, step_of, finish_of};
+ghost use Rattle.class_session.specs.Whole.{answer_of};
+ghost use Rattle.class_session.specs.Steps.{fresh_session, kept_as, step_of, finish_of};
 
-use answering::answer;
-use class_desk::Desk;
+use class_desk::{Command, Desk, Heard, Reply};
+use feeding::{Fed, Line};
+use units::Refusal;
 
-// The desk, and the bytes of the line that is not at its end yet: count of them, or 33 for more than 32.
+// The desk, and the line that is not at its end yet.
 #[derive(Drop)]
 pub struct Session {
     pub desk: Desk,
-    pub kept: [u8; 32],
-    pub count: usize,
-}
-
-// The session after a piece of input, how many bytes of the input it took, and how many bytes of output it wrote.
-#[derive(Drop)]
-pub struct Fed {
-    pub session: Session,
-    pub read: usize,
-    pub written: usize,
+    pub line: Line,
 }
 
 impl Session {
@@ -33,54 +24,37 @@ impl Session {
     pub fn fresh() -> Session
         ensures { result ≡ fresh_session }
     {
-        let desk = Desk::fresh();
-        let kept = [0u8; 32];
         Session {
-            desk: desk,
-            kept: kept,
-            count: 0,
+            desk: Desk::fresh(),
+            line: Line::fresh(),
         }
     }
 
     // Takes as much of the input as out has room for, and writes the replies to its lines at the start of out.
-    pub fn feed(self, input: &[u8], out: &mut [u8]) -> Fed
-        ensures { FeedsBy step_of longest self input.now out.old out.new result.session result.read result.written }
+    pub fn feed(self, input: &[u8], out: &mut [u8]) -> Fed<Session>
+        ensures { FeedsBy step_of longest self input.now out.old out.new result.state result.read result.written }
     {
-        let mut desk = self.desk;
-        let mut kept = self.kept;
-        let mut count = self.count;
-        let mut i: usize = 0;
-        let mut w: usize = 0;
-        while i < input.len() {
-            if out.len() - w < 96 {
+        let Session { mut desk, mut line } = self;
+        let mut read = 0;
+        let mut written = 0;
+        for b in input {
+            if out.len() - written < 96 {
                 break;
             }
-            let b = input[i];
-            if b == b'\n' {
-                let heard = answer(desk, kept, count);
-                let next = heard.desk;
-                desk = next;
-                let reply = heard.reply;
-                w = class_replies::print(reply, out, w);
-                count = 0;
+            if *b == b'\n' {
+                let heard = answer(desk, asked(&line));
+                desk = heard.desk;
+                written = class_replies::print(heard.reply, out, written);
+                line.end();
             } else {
-                if count < 32 {
-                    kept[count] = b;
-                    count += 1;
-                } else {
-                    count = 33;
-                }
+                line.keep(*b);
             }
-            i += 1;
+            read += 1;
         }
         Fed {
-            session: Session {
-                desk: desk,
-                kept: kept,
-                count: count,
-            },
-            read: i,
-            written: w,
+            state: Session { desk, line },
+            read,
+            written,
         }
     }
 
@@ -88,11 +62,29 @@ impl Session {
     pub fn finish(self, out: &mut [u8; 96]) -> usize
         ensures { Printed (finish_of self) out.old out.new result }
     {
-        let count = self.count;
-        if count == 0 {
+        if self.line.is_empty() {
             return 0;
         }
-        let fed = self.feed(b"\n", out);
-        fed.written
+        self.feed(b"\n", out).written
+    }
+}
+
+// The command that a line asks for, were it at its end; a line of more than 32 bytes asks for none.
+fn asked(line: &Line) -> Option<Command>
+    ensures { result ≡ kept_as line.now }
+{
+    class_lines::parse(line.whole()?)
+}
+
+// What the desk replies to a line; one that asks for no command leaves it as it was.
+fn answer(desk: Desk, asked: Option<Command>) -> Heard
+    ensures { result ≡ answer_of desk asked }
+{
+    match asked {
+        Some(command) => desk.hear(command),
+        None => Heard {
+            desk,
+            reply: Reply::Refused(Refusal::NoCommand),
+        },
     }
 }

@@ -1,5 +1,6 @@
 -- A line is read as a call exactly where it is the call's one text: every call has a shape of its own.
 use Rattle.std.proofs.lemmas.Option.{none-some}
+use Rattle.std.specs.Option.{option_and_then}
 use mathlib.Core.Path.{◌≡◌, refl, subst}
 use mathlib.Core.Bool.{Bool, true, false, cond}
 use mathlib.Core.List.{List, [], ◌∷◌}
@@ -8,7 +9,7 @@ use Prim.Native.Nat.{ℕ}
 use lib.Dec.{eqb}
 use Rattle.text.specs.Reading.{blank, Taken, read_number}
 use Rattle.shapes.specs.declared.Shape.{Shape}
-use Rattle.shapes.specs.declared.Shape.TheVariants.{Word, One, Two, Other}
+use Rattle.shapes.specs.declared.Shape.TheVariants.{Word, One, Two}
 use Rattle.shapes.specs.Shapes.{shape_of}
 use Rattle.shapes.specs.Shapes.{read_first as shape_first, read_second as shape_second}
 use Rattle.shapes.proofs.Calls.{chosen, Tells, reads, fits}
@@ -69,24 +70,23 @@ told : (s : Shape) (c : Call) → call_in s ≡ Some c → s ≡ shaped c
 told (Word letter) c e = word_told letter c e
 told (One letter a) c e = one_told letter a c e
 told (Two letter a b) c e = two_told letter a b c e
-told Other c e = absurd (none-some c e)
 
 -- a line is read as the call of its shape
-second_read : (letter a : ℕ) (t : Option Taken) → call_in (shape_second letter a t) ≡ read_second letter a t
+second_read : (letter a : ℕ) (t : Option Taken) → option_and_then call_in (shape_second letter a t) ≡ read_second letter a t
 second_read letter a None = refl
 second_read letter a (Some (b, [])) = refl
 second_read letter a (Some (b, x ∷ rest)) = refl
 
-first_read : (letter : ℕ) (t : Option Taken) → call_in (shape_first letter t) ≡ read_first letter t
+first_read : (letter : ℕ) (t : Option Taken) → option_and_then call_in (shape_first letter t) ≡ read_first letter t
 first_read letter None = refl
 first_read letter (Some (a, [])) = refl
 first_read letter (Some (a, x ∷ rest)) = second_read letter a (read_number rest)
 
-blank_read : (b : Bool) (s : Shape) (o : Option Call) → call_in s ≡ o → call_in (cond b s Other) ≡ cond b o None
+blank_read : (b : Bool) (s : Option Shape) (o : Option Call) → option_and_then call_in s ≡ o → option_and_then call_in (cond b s None) ≡ cond b o None
 blank_read true s o e = e
 blank_read false s o e = refl
 
-pub read_by_shape : (line : List ℕ) → call_in (shape_of line) ≡ read_call line
+pub read_by_shape : (line : List ℕ) → option_and_then call_in (shape_of line) ≡ read_call line
 read_by_shape [] = refl
 read_by_shape (letter ∷ []) = refl
 read_by_shape (letter ∷ x ∷ rest) = blank_read (eqb x blank) (shape_first letter (read_number rest)) _ (first_read letter (read_number rest))

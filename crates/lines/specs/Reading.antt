@@ -2,12 +2,10 @@
 -- is the call's one text and its numbers are small enough.
 use Rattle.std.specs.Prelude.{cond, List, [], ◌∷◌, ◌≡◌, ℕ, ◌≤◌, eqb, length, Option, None, Some}
 use Rattle.shapes.specs.declared.Shape.{Shape}
-use Rattle.shapes.specs.declared.Shape.TheVariants.{Word, One, Two, Other}
+use Rattle.shapes.specs.declared.Shape.TheVariants.{Word, One, Two}
 use Rattle.text.specs.Reading.{blank, Taken, read_number}
 use Rattle.station.specs.declared.Call.{Call}
 use Rattle.station.specs.declared.Call.TheVariants.{OpenUrgent, OpenFair, CloseUrgent, CloseFair, OfferCell, OfferPacket, OpenTurn, LostTurn, Begin, End}
-use Rattle.lines.specs.declared.Parsed.{Parsed}
-use Rattle.lines.specs.declared.Parsed.TheVariants.{Command, NoCommand}
 use Rattle.lines.specs.Grammar.{big_u, big_f, big_c, small_c, small_u, small_f, small_t, small_x, small_b, small_e, text_of, Small}
 
 -- the command of a letter alone
@@ -52,12 +50,6 @@ abbrev pub call_in : Shape → Option Call
 call_in (Word letter) = word_of letter
 call_in (One letter a) = one_of letter a
 call_in (Two letter a b) = two_of letter a b
-call_in Other = None
-
--- the answer of `parse` for what a line is read as
-abbrev pub parsed_of : Option Call → Parsed
-parsed_of None = NoCommand
-parsed_of (Some c) = Command c
 
 -- A line is read as a call exactly where it is the call's one text and each number is small enough; any other line is none.
 abbrev pub ReadsOneText : Type 0

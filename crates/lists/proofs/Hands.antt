@@ -1,6 +1,8 @@
 -- One byte of a line: each way that it can go, by the tests that lead there.
 use mathlib.Core.Bool.{Bool, true, false, cond, ◌&&◌, not}
-use mathlib.Core.Path.{◌≡◌, ◌∙◌, ap}
+use mathlib.Core.Path.{◌≡◌, refl, sym, ◌∙◌, ap}
+use Rattle.std.proofs.Common.{None, Some}
+use Rattle.std.proofs.lemmas.Option.{none-some}
 use Prim.Native.Nat.{ℕ, ◌-◌}
 use borrow.Author.Tests.{eq-eqb, ne_eqb}
 use lib.Dec.{eqb}
@@ -24,6 +26,11 @@ whole_bad h e f = ap (λ (t : Bool). t && (not h.bad && eqb h.given 2)) e ∙ ap
 
 pub whole_given : (h : Hand) → h.begun ≡ true → h.bad ≡ false → whole_at h ≡ eqb h.given 2
 whole_given h e f = ap (λ (t : Bool). t && (not h.bad && eqb h.given 2)) e ∙ ap (λ (t : Bool). not t && eqb h.given 2) f
+
+-- what is none by its test did not pass it
+pub passed_not : (t : Bool) (x : ℕ) → cond t (Some x) None ≡ None → t ≡ false
+passed_not true x e = absurd (none-some x (sym e))
+passed_not false x e = refl
 
 -- a number goes on at hand
 pub still_at_hand : (h : Hand) (value : ℕ) → h.begun ≡ true

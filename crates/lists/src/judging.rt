@@ -45,16 +45,12 @@ pub(crate) fn print(verdict: Result<(), Objection>, out: &mut [u8], at: usize) -
     ensures { Put (verdict_line verdict) out.old at out.new result }
 {
     match verdict {
-        Ok(()) => text::line(out, at, b"admitted", [0, 0, 0], 0),
-        Err(Objection::FailsAt(t)) => text::line(out, at, b"fails", [t, 0, 0], 1),
-        Err(Objection::Rate) => text::line(out, at, b"rate", [0, 0, 0], 0),
-        Err(Objection::Refused(refusal)) => text::line(out, at, b"no", [refusal.number(), 0, 0], 1),
-        Err(Objection::RefusedAt(refusal, k)) => text::line(
-            out,
-            at,
-            b"no",
-            [refusal.number(), k as u64, 0],
-            2,
-        ),
+        Ok(()) => text::line(out, at, b"admitted", &[]),
+        Err(Objection::FailsAt(t)) => text::line(out, at, b"fails", &[t]),
+        Err(Objection::Rate) => text::line(out, at, b"rate", &[]),
+        Err(Objection::Refused(refusal)) => text::line(out, at, b"no", &[refusal.number()]),
+        Err(Objection::RefusedAt(refusal, k)) => {
+            text::line(out, at, b"no", &[refusal.number(), k as u64])
+        }
     }
 }

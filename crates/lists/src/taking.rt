@@ -41,18 +41,17 @@ impl Hand {
     {
         self.some = true;
         if self.begun {
-            if b == 32 {
+            if b == b' ' {
                 return self.ended();
             }
-            if text::goes_on(self.value, b) {
-                self.value = self.value * 10 + (b - 48) as u64;
-                return self;
+            match text::grow(self.value, b) {
+                Some(value) => self.value = value,
+                None => self.bad = true,
             }
-            self.bad = true;
             return self;
         }
-        if text::digit(b) {
-            self.value = (b - 48) as u64;
+        if b.is_ascii_digit() {
+            self.value = u64::from(b - b'0');
             self.begun = true;
             return self;
         }
@@ -101,7 +100,7 @@ impl Reading {
     {
         let hand = self.hand;
         let next = hand.takes(b);
-        if b == 32 {
+        if b == b' ' {
             let mut filled = self.filled();
             filled.hand = next;
             return filled;

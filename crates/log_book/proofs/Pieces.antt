@@ -17,7 +17,7 @@ use Rattle.text.specs.Lines.{line_feed}
 use Rattle.text.specs.Input.{onto, lines_of, joined}
 use Rattle.text.proofs.Input.{begun, begun_more, begun_ended}
 use Rattle.session.specs.Whole.{heard_as}
-use Rattle.session.specs.Steps.{kept_as}
+use Rattle.log_book.specs.Whole.{kept_as}
 use Rattle.recorder.specs.declared.Recorder.{Recorder}
 use Rattle.recorder.specs.Laws.{recorded_from, room_from}
 use Rattle.recorded.proofs.Wrote.{writes_logs}

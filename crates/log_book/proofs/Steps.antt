@@ -9,7 +9,7 @@ use lib.ListN.{length, drop, get_or, set, drop_of_length-le}
 use lib.Seq.{drop-cons}
 use Rattle.station.specs.declared.Call.{Call}
 use Rattle.text.specs.Lines.{line_feed}
-use Rattle.session.specs.Steps.{kept_as}
+use Rattle.log_book.specs.Whole.{kept_as}
 use Rattle.recorder.specs.declared.Recorder.{Recorder}
 use Rattle.recorder.specs.Recording.{note_of, room_noted}
 use Rattle.recorder.specs.Laws.{recorded_from, room_from}

@@ -2,7 +2,7 @@
 use Rattle.std.specs.Prelude.{cond, List, [], ◌∷◌, ℕ, ◌+◌, eqb, ltb, set, replicate}
 use Rattle.station.specs.declared.Call.{Call}
 use Rattle.text.specs.Lines.{line_feed}
-use Rattle.session.specs.Steps.{kept_as}
+use Rattle.log_book.specs.Whole.{kept_as}
 use Rattle.recorder.specs.Recording.{fresh_recorder}
 use Rattle.recorder.specs.Laws.{recorded_from, room_from}
 use Rattle.log_book.specs.declared.Logbook.{Logbook}

@@ -1,10 +1,9 @@
 // What a line asks of the station, noted.
 ghost use Rattle.std.specs.Prelude.{◌≡◌};
-ghost use Rattle.session.specs.Steps.{kept_as};
+ghost use Rattle.log_book.specs.Whole.{kept_as};
 ghost use Rattle.recorder.specs.Laws.{recorded_from, room_from};
 ghost use Rattle.log_book.specs.Whole.{calls_by};
 
-use lines::Parsed;
 use recorder::Recorder;
 
 // Notes the call that the bytes kept of a line ask for; a line of more than 32 is no command, and no command is no call.
@@ -15,9 +14,8 @@ pub(crate) fn hear(recorder: Recorder, kept: [u8; 32], count: usize, events: &mu
     if 32 < count {
         return recorder;
     }
-    let parsed = lines::parse(&kept[..count]);
-    match parsed {
-        Parsed::Command(call) => recorder.note(call, events),
-        Parsed::NoCommand => recorder,
+    match lines::parse(&kept[..count]) {
+        Some(call) => recorder.note(call, events),
+        None => recorder,
     }
 }

@@ -3,7 +3,6 @@ ghost use Rattle.std.specs.Prelude.{◌≡◌};
 ghost use Rattle.log_commands.specs.Reading.{starts_with, is_word, numbered, command_of};
 
 use crate::Command;
-use text::Field;
 
 // What a line asks of the log program.
 pub fn parse(line: &[u8]) -> Command
@@ -19,13 +18,13 @@ pub fn parse(line: &[u8]) -> Command
         return Command::Write;
     }
     match text::number(line, 5) {
-        Field::Number(n, end) => {
+        Some((n, end)) => {
             if end < line.len() {
                 return Command::Unknown;
             }
             numbered(line, n as usize)
         }
-        Field::Missing => Command::Unknown,
+        None => Command::Unknown,
     }
 }
 

@@ -6,7 +6,7 @@ pub(crate) fn line(rt: &HostRuntime, word: &[u8], a: u64, b: u64, count: usize) 
     requires { length word.now ≤ 8 }
 {
     let mut text = [0u8; 128];
-    let n = text::line(&mut text, 0, word, [a, b, 0], count);
+    let n = text::line(&mut text, 0, word, &[a, b][..count.min(2)]);
     raw(rt, &text[..n])
 }
 
@@ -18,8 +18,8 @@ pub(crate) fn no(rt: &HostRuntime, number: u64, place: u64, count: usize) -> boo
 // Writes `ok` and five numbers as a line.
 pub(crate) fn five(rt: &HostRuntime, a: u64, b: u64, c: u64, d: u64, e: u64) -> bool {
     let mut text = [0u8; 128];
-    let p = text::part(&mut text, 0, b"ok", [a, b, c], 3);
-    let n = text::line(&mut text, p, b"", [d, e, 0], 2);
+    let p = text::part(&mut text, 0, b"ok", &[a, b, c]);
+    let n = text::line(&mut text, p, b"", &[d, e]);
     raw(rt, &text[..n])
 }
 

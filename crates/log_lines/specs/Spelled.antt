@@ -31,7 +31,7 @@ pub record AnswersSpelled : Type 0 where
   pub too_long : written_line TooLong ≡ spelled (bytes_of "no" ∷ field (written_told TooLong).number ∷ [])
   -- the first place where two logs differ, or that there is none
   pub differ : (place : ℕ) → difference_line (At place) ≡ spelled (bytes_of "at" ∷ field place ∷ [])
-  pub nowhere : difference_line Nowhere ≡ spelled (bytes_of "None" ∷ [])
+  pub nowhere : difference_line Nowhere ≡ spelled (bytes_of "none" ∷ [])
 
 -- Each record beside its line, which is the line of a session; an event goes by its kind, and a kind that no log holds as an end.
 pub record RecordsSpelled : Type 0 where

@@ -28,8 +28,8 @@ fn good(contents: Contents, length: usize, out: &mut [u8], at: usize) -> usize
     let urgent = contents.urgent as u64;
     let fair = contents.fair as u64;
     let events = contents.events as u64;
-    let p = text::part(out, at, b"ok", [first, urgent, fair], 3);
-    text::line(out, p, b"", [events, length as u64, 0], 2)
+    let p = text::part(out, at, b"ok", &[first, urgent, fair]);
+    text::line(out, p, b"", &[events, length as u64])
 }
 
 // Puts the line of what writing a log gave, and answers the place after it.

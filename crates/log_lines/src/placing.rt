@@ -25,5 +25,5 @@ pub(crate) fn line(out: &mut [u8], at: usize, word: &[u8], a: u64, b: u64, count
     if !room_for_line(out.len(), at) {
         return at;
     }
-    text::line(out, at, word, [a, b, 0], count)
+    text::line(out, at, word, &[a, b, 0][..count.min(3)])
 }

@@ -13,11 +13,7 @@ use station::Reply;
 pub fn print(reply: Reply, out: &mut [u8], at: usize) -> usize
     ensures { Placed longest (line_of reply) out.old at out.new result }
 {
-    let room = out.len();
-    if room < at {
-        return at;
-    }
-    if room - at < 96 {
+    if out.len().saturating_sub(at) < 96 {
         return at;
     }
     match reply {

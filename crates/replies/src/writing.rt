@@ -1,5 +1,5 @@
 // The lines of both lanes' answers, each put at a place that has room for the longest.
-ghost use Rattle.std.specs.Prelude.{map, ◌+◌, ◌≤◌, length, take};
+ghost use Rattle.std.specs.Prelude.{map, ◌+◌, ◌≤◌, length};
 ghost use Rattle.text.specs.Decimal.{decimal_of};
 ghost use Rattle.text.specs.Lines.{line_with, Put};
 ghost use Rattle.replies.specs.Printing.{ok_word, refusal_line, sent_line, idle_line, urgent_line, fair_line};
@@ -13,9 +13,8 @@ pub(crate) fn urgent_line(out: &mut [u8], at: usize, answer: urgent::Answer) -> 
 {
     match answer {
         urgent::Answer::Refused(refusal) => refusal_line(out, at, refusal),
-        urgent::Answer::Opened => ok(out, at, [0, 0, 0], 0),
-        urgent::Answer::Closed => ok(out, at, [0, 0, 0], 0),
-        urgent::Answer::Accepted(number, last) => ok(out, at, [number, last.0, 0], 2),
+        urgent::Answer::Opened | urgent::Answer::Closed => ok(out, at, &[]),
+        urgent::Answer::Accepted(number, last) => ok(out, at, &[number, last.0]),
         urgent::Answer::Sent(flow, number, missed) => sent(out, at, flow, number, missed),
         urgent::Answer::Idle(missed) => idle(out, at, missed),
     }
@@ -28,16 +27,10 @@ pub(crate) fn fair_line(out: &mut [u8], at: usize, answer: fair::Answer) -> usiz
 {
     match answer {
         fair::Answer::Refused(refusal) => refusal_line(out, at, refusal),
-        fair::Answer::Opened => ok(out, at, [0, 0, 0], 0),
-        fair::Answer::Closed => ok(out, at, [0, 0, 0], 0),
-        fair::Answer::Accepted(number, start, finish) => ok(
-            out,
-            at,
-            [number, start.0, finish.0],
-            3,
-        ),
-        fair::Answer::Begun(flow, number, _, start) => ok(out, at, [flow, number, start.0], 3),
-        fair::Answer::Ended(flow, number, _) => ok(out, at, [flow, number, 0], 2),
+        fair::Answer::Opened | fair::Answer::Closed => ok(out, at, &[]),
+        fair::Answer::Accepted(number, start, finish) => ok(out, at, &[number, start.0, finish.0]),
+        fair::Answer::Begun(flow, number, _, start) => ok(out, at, &[flow, number, start.0]),
+        fair::Answer::Ended(flow, number, _) => ok(out, at, &[flow, number]),
     }
 }
 
@@ -46,16 +39,16 @@ fn refusal_line(out: &mut [u8], at: usize, refusal: Refusal) -> usize
     requires { at + 96 ≤ length out.old }
     ensures { Put (refusal_line refusal) out.old at out.new result × (result ≤ at + 96) }
 {
-    let n = refusal.number();
-    text::line(out, at, b"no", [n, 0, 0], 1)
+    text::line(out, at, b"no", &[refusal.number()])
 }
 
-// `ok` and as many numbers.
-fn ok(out: &mut [u8], at: usize, numbers: [u64; 3], count: usize) -> usize
-    requires { at + 96 ≤ length out.old }
-    ensures { Put (line_with ok_word (map decimal_of (take count numbers))) out.old at out.new result × (result ≤ at + 96) }
+// `ok` and three numbers at most.
+fn ok(out: &mut [u8], at: usize, numbers: &[u64]) -> usize
+    requires few { length numbers.now ≤ 3 }
+    requires room { at + 96 ≤ length out.old }
+    ensures { Put (line_with ok_word (map decimal_of numbers.now)) out.old at out.new result × (result ≤ at + 96) }
 {
-    text::line(out, at, b"ok", numbers, count)
+    text::line(out, at, b"ok", numbers)
 }
 
 // The cell that was sent, and how many were missed.
@@ -63,8 +56,8 @@ fn sent(out: &mut [u8], at: usize, flow: u64, n: u64, missed: u64) -> usize
     requires { at + 96 ≤ length out.old }
     ensures { Put (sent_line flow n missed) out.old at out.new result × (result ≤ at + 96) }
 {
-    let p = text::part(out, at, b"sent", [flow, n, 0], 2);
-    text::line(out, p, b" missed", [missed, 0, 0], 1)
+    let p = text::part(out, at, b"sent", &[flow, n]);
+    text::line(out, p, b" missed", &[missed])
 }
 
 // That nothing was sent, and how many cells were missed.
@@ -72,5 +65,5 @@ fn idle(out: &mut [u8], at: usize, missed: u64) -> usize
     requires { at + 96 ≤ length out.old }
     ensures { Put (idle_line missed) out.old at out.new result × (result ≤ at + 96) }
 {
-    text::line(out, at, b"idle missed", [missed, 0, 0], 1)
+    text::line(out, at, b"idle missed", &[missed])
 }

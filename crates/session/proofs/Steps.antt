@@ -1,11 +1,9 @@
 -- A line's call, each way that a byte can go, and the end, as steps.
-use mathlib.Core.Path.{◌≡◌, refl, ap}
+use mathlib.Core.Path.{◌≡◌, sym}
 use mathlib.Core.List.{List, []}
 use Rattle.std.proofs.Common.{Option, None, Some}
-use Prim.Native.Nat.{ℕ, ◌+◌, ◌≤◌, ◌<◌}
-use native.Mathlib.Omega.{arith}
-use borrow.Author.Tests.{eq-eqb, ne_eqb, lt-ltb, le-ltb}
-use lib.ListN.{set}
+use Prim.Native.Nat.{ℕ}
+use borrow.Author.Tests.{eq-eqb, ne_eqb}
 use Rattle.urgent.specs.declared.Done.{Done as UrgentDone}
 use Rattle.fair.specs.declared.Done.{Done as FairDone}
 use Rattle.station.specs.Calls.{call_of}
@@ -13,44 +11,17 @@ use Rattle.station.specs.declared.Call.{Call}
 use Rattle.station.specs.declared.Called.{Called}
 use Rattle.station.specs.declared.Reply.{Reply}
 use Rattle.station.specs.declared.Station.{Station}
-use Rattle.lines.specs.declared.Parsed.{Parsed}
-use Rattle.lines.specs.declared.Parsed.TheVariants.{Command, NoCommand}
-use Rattle.lines.specs.Reading.{parsed_of}
+use Rattle.feeding.specs.declared.line.Line.{Line}
+use Rattle.feeding.specs.Lines.{kept_of, ended_of}
 use Rattle.text.specs.Lines.{line_feed, Printed}
 use Rattle.text.proofs.Feeding.{Going, printed_nothing}
-use Rattle.replies.specs.Printing.{no_command_line, line_of, longest}
+use Rattle.replies.specs.Printing.{line_of, longest}
 use Rattle.session.specs.declared.Session.{Session}
+use Rattle.units.specs.declared.Refusal.TheVariants.{NoCommand}
+use Rattle.urgent.specs.declared.Answer.TheVariants.{Refused}
+use Rattle.station.specs.declared.Reply.TheVariants.{Urgent}
+use Rattle.session.specs.Whole.{answer_of}
 use Rattle.session.specs.Steps.{kept_as, step_of, finish_of}
-
--- what was parsed, read back
-pub asked : (o : Option Call) (r : Parsed) (c : Call) → r ≡ parsed_of o → r ≡ Command c → o ≡ Some c
-asked None r c p q = let z : ◌≡◌ {A = ℕ} 0 1 = cc in absurd (omega arith)
-asked (Some d) r c p q = let e : d ≡ c = cc in ap Some e
-
-pub not_asked : (o : Option Call) (r : Parsed) → r ≡ parsed_of o → r ≡ NoCommand → o ≡ None
-not_asked None r p q = refl
-not_asked (Some d) r p q = let z : ◌≡◌ {A = ℕ} 0 1 = cc in absurd (omega arith)
-
--- each way that a byte can go
-pub step_call : (s : Session) (b : ℕ) {r : Parsed} {c : Call} {d : Called} → b ≡ line_feed → r ≡ parsed_of (kept_as s.kept s.count) → r ≡ Command c → d ≡ call_of s.station c
-    → step_of s b ≡ record { state = record { station = d.station; kept = s.kept; count = 0 }; text = line_of d.reply }
-unfolding step_of
-step_call s b {r} {c} {d} l p q e = rw (eq-eqb b line_feed l, asked (kept_as s.kept s.count) r c p q, e)
-
-pub step_none : (s : Session) (b : ℕ) {r : Parsed} → b ≡ line_feed → r ≡ parsed_of (kept_as s.kept s.count) → r ≡ NoCommand
-    → step_of s b ≡ record { state = record { station = s.station; kept = s.kept; count = 0 }; text = no_command_line }
-unfolding step_of
-step_none s b {r} l p q = rw (eq-eqb b line_feed l, not_asked (kept_as s.kept s.count) r p q)
-
-pub step_kept : (s : Session) (b : ℕ) → (b ≡ line_feed → ⊥) → s.count < 32
-    → step_of s b ≡ record { state = record { station = s.station; kept = set s.kept s.count b; count = s.count + 1 }; text = [] }
-unfolding step_of
-step_kept s b n l = rw (ne_eqb b line_feed n, lt-ltb s.count 32 l)
-
-pub step_long : (s : Session) (b : ℕ) → (b ≡ line_feed → ⊥) → 32 ≤ s.count
-    → step_of s b ≡ record { state = record { station = s.station; kept = s.kept; count = 33 }; text = [] }
-unfolding step_of
-step_long s b n l = rw (ne_eqb b line_feed n, le-ltb s.count 32 l)
 
 -- both lanes, each as its last call left it: as a station, with a reply, and with the line kept
 abbrev pub lanes : UrgentDone → FairDone → Station
@@ -59,23 +30,42 @@ lanes urgent fair = record { urgent = urgent.lane; fair = fair.lane }
 abbrev pub called : UrgentDone → FairDone → Reply → Called
 called urgent fair answered = record { station = lanes urgent fair; reply = answered }
 
-abbrev pub together : UrgentDone → FairDone → List ℕ → ℕ → Session
-together urgent fair kept count = record { station = lanes urgent fair; kept = kept; count = count }
+abbrev pub together : UrgentDone → FairDone → Line → Session
+together urgent fair line = record { station = lanes urgent fair; line = line }
 
--- the parts after a call's arm of the code, each by what the arm made of it
-pub answered : (s : Station) {u u' : UrgentDone} {f f' : FairDone} {t t' : Reply} {c c' : Call} → c' ≡ c → u' ≡ u → f' ≡ f → t' ≡ t → called u f t ≡ call_of s c → called u' f' t' ≡ call_of s c'
-answered s a b d e h = rw (a, b, d, e) h
+-- both lanes and a reply are what a line is answered that asks for a call, or for none
+abbrev pub Answers : Station → Option Call → UrgentDone → FairDone → Reply → Type 0
+Answers s asked urgent fair answered = answer_of s asked ≡ record { station = lanes urgent fair; text = line_of answered }
+
+-- they are, each by what an arm of the code made of it
+pub by_call : (s : Station) {u u' : UrgentDone} {f f' : FairDone} {t t' : Reply} {o : Option Call} {c : Call}
+    → o ≡ Some c → u' ≡ u → f' ≡ f → t' ≡ t → called u f t ≡ call_of s c → Answers s o u' f' t'
+by_call s a b d e h = rw (a, b, d, e, sym h)
+
+pub by_none : (u u' : UrgentDone) (f f' : FairDone) {t' : Reply} {o : Option Call}
+    → o ≡ None → u' ≡ u → f' ≡ f → t' ≡ Urgent (Refused NoCommand) → Answers (lanes u f) o u' f' t'
+by_none u u' f f' a b d e = rw (a, b, d, e)
+
+-- a line feed, and any other byte
+pub step_line : (s : Session) (b : ℕ) {o : Option Call} (u : UrgentDone) (f : FairDone) (t : Reply) → b ≡ line_feed → o ≡ kept_as s.line → Answers s.station o u f t
+    → step_of s b ≡ record { state = together u f (ended_of s.line); text = line_of t }
+unfolding step_of
+step_line s b u f t l p a = rw (eq-eqb b line_feed l, sym p, a)
+
+pub step_other : (s : Session) (b : ℕ) → (b ≡ line_feed → ⊥) → step_of s b ≡ record { state = record { station = s.station; line = kept_of s.line b }; text = [] }
+unfolding step_of
+step_other s b n = rw (ne_eqb b line_feed n)
 
 -- the parts after a branch of the code, each by what the branch made of it
-pub arrived : {s : Session} {input was is is' : List ℕ} {u u' : UrgentDone} {f f' : FairDone} {kept kept' : List ℕ} {count count' i w w' : ℕ}
-    → is' ≡ is → u' ≡ u → f' ≡ f → kept' ≡ kept → count' ≡ count → w' ≡ w → Going step_of longest s input was is (together u f kept count) i w
-    → Going step_of longest s input was is' (together u' f' kept' count') i w'
-arrived a b c d e h g = rw (a, b, c, d, e, h) g
+pub arrived : {s : Session} {input was is is' : List ℕ} {u u' : UrgentDone} {f f' : FairDone} {line line' : Line} {i w w' : ℕ}
+    → is' ≡ is → u' ≡ u → f' ≡ f → line' ≡ line → w' ≡ w → Going step_of longest s input was is (together u f line) i w
+    → Going step_of longest s input was is' (together u' f' line') i w'
+arrived a b c d h g = rw (a, b, c, d, h) g
 
 -- the end of the input
-pub finish_empty : (s : Session) (out : List ℕ) → s.count ≡ 0 → Printed (finish_of s) out out 0
-finish_empty s out e = rw (eq-eqb s.count 0 e) (printed_nothing out)
+pub finish_empty : (s : Session) (out : List ℕ) → s.line.count ≡ 0 → Printed (finish_of s) out out 0
+finish_empty s out e = rw (eq-eqb s.line.count 0 e) (printed_nothing out)
 
-pub finish_text : (s : Session) → (s.count ≡ 0 → ⊥) → (step_of s line_feed).text ≡ finish_of s
+pub finish_text : (s : Session) → (s.line.count ≡ 0 → ⊥) → (step_of s line_feed).text ≡ finish_of s
 unfolding step_of
-finish_text s n = rw (ne_eqb s.count 0 n)
+finish_text s n = rw (ne_eqb s.line.count 0 n)

@@ -1,32 +1,21 @@
 // The session: bytes are cut into lines, each line is answered by the station, and the answers are written as lines.
 #![tactic(auto)]
 
-mod answering;
-
 ghost use Rattle.std.specs.Prelude.{◌≡◌};
 ghost use Rattle.text.specs.Lines.{Printed};
 ghost use Rattle.text.specs.Feeding.{FeedsBy};
 ghost use Rattle.replies.specs.Printing.{longest};
-ghost use Rattle.session.specs.Steps.{fresh_session, step_of, finish_of};
+ghost use Rattle.session.specs.Steps.{fresh_session, kept_as, step_of, finish_of};
 
-use answering::{no_command, read, reply};
-use lines::Parsed;
+use feeding::{Fed, Line};
 use station::{Call, Reply, Station};
+use units::Refusal;
 
-// The station, and the bytes of the line that is not at its end yet: count of them, or 33 for more than 32.
+// The station, and the line that is not at its end yet.
 #[derive(Drop)]
 pub struct Session {
     pub station: Station,
-    pub kept: [u8; 32],
-    pub count: usize,
-}
-
-// The session after a piece of input, how many bytes of the input it took, and how many bytes of output it wrote.
-#[derive(Drop)]
-pub struct Fed {
-    pub session: Session,
-    pub read: usize,
-    pub written: usize,
+    pub line: Line,
 }
 
 impl Session {
@@ -34,137 +23,93 @@ impl Session {
     pub fn fresh() -> Session
         ensures { result ≡ fresh_session }
     {
-        let station = Station::fresh();
-        let kept = [0u8; 32];
         Session {
-            station: station,
-            kept: kept,
-            count: 0,
+            station: Station::fresh(),
+            line: Line::fresh(),
         }
     }
 
     // Takes as much of the input as out has room for, and writes the answers of its lines at the start of out. The lanes are
     // taken apart so that a line moves only the lane it calls; the answers that they start with are read by nobody.
-    pub fn feed(self, input: &[u8], out: &mut [u8]) -> Fed
-        ensures { FeedsBy step_of longest self input.now out.old out.new result.session result.read result.written }
+    pub fn feed(self, input: &[u8], out: &mut [u8]) -> Fed<Session>
+        ensures { FeedsBy step_of longest self input.now out.old out.new result.state result.read result.written }
     {
-        let station = self.station;
-        let urgent_lane = station.urgent;
-        let fair_lane = station.fair;
+        let Session { station, mut line } = self;
         let mut urgent = urgent::Done {
-            lane: urgent_lane,
+            lane: station.urgent,
             answer: urgent::Answer::Opened,
         };
         let mut fair = fair::Done {
-            lane: fair_lane,
+            lane: station.fair,
             answer: fair::Answer::Opened,
         };
-        let mut kept = self.kept;
-        let mut count = self.count;
-        let mut i: usize = 0;
-        let mut w: usize = 0;
-        while i < input.len() {
-            if out.len() - w < 96 {
+        let mut read = 0;
+        let mut written = 0;
+        for b in input {
+            if out.len() - written < 96 {
                 break;
             }
-            let b = input[i];
-            if b == b'\n' {
-                match read(kept, count) {
-                    Parsed::Command(call) => {
-                        let mut answered = Reply::Urgent(urgent::Answer::Opened);
-                        match call {
-                            Call::OpenUrgent(flow, deadline) => {
-                                let lane = urgent.lane;
-                                urgent = lane.open(flow, deadline);
-                                let answer = urgent.answer;
-                                answered = Reply::Urgent(answer);
-                            }
-                            Call::OpenFair(flow, weight) => {
-                                let lane = fair.lane;
-                                fair = lane.open(flow, weight);
-                                let answer = fair.answer;
-                                answered = Reply::Fair(answer);
-                            }
-                            Call::CloseUrgent(flow) => {
-                                let lane = urgent.lane;
-                                urgent = lane.close(flow);
-                                let answer = urgent.answer;
-                                answered = Reply::Urgent(answer);
-                            }
-                            Call::CloseFair(flow) => {
-                                let lane = fair.lane;
-                                fair = lane.close(flow);
-                                let answer = fair.answer;
-                                answered = Reply::Fair(answer);
-                            }
-                            Call::OfferCell(flow, deadline) => {
-                                let lane = urgent.lane;
-                                urgent = lane.offer(flow, deadline);
-                                let answer = urgent.answer;
-                                answered = Reply::Urgent(answer);
-                            }
-                            Call::OfferPacket(flow, length) => {
-                                let lane = fair.lane;
-                                fair = lane.offer(flow, length);
-                                let answer = fair.answer;
-                                answered = Reply::Fair(answer);
-                            }
-                            Call::OpenTurn => {
-                                let lane = urgent.lane;
-                                urgent = lane.turn(true);
-                                let answer = urgent.answer;
-                                answered = Reply::Urgent(answer);
-                            }
-                            Call::LostTurn => {
-                                let lane = urgent.lane;
-                                urgent = lane.turn(false);
-                                let answer = urgent.answer;
-                                answered = Reply::Urgent(answer);
-                            }
-                            Call::Begin => {
-                                let lane = fair.lane;
-                                fair = lane.begin();
-                                let answer = fair.answer;
-                                answered = Reply::Fair(answer);
-                            }
-                            Call::End => {
-                                let lane = fair.lane;
-                                fair = lane.end();
-                                let answer = fair.answer;
-                                answered = Reply::Fair(answer);
-                            }
-                        }
-                        w = reply(answered, out, w);
+            if *b == b'\n' {
+                let answered = match asked(&line) {
+                    Some(Call::OpenUrgent(flow, deadline)) => {
+                        urgent = urgent.lane.open(flow, deadline);
+                        Reply::Urgent(urgent.answer)
                     }
-                    Parsed::NoCommand => {
-                        w = no_command(out, w);
+                    Some(Call::OpenFair(flow, weight)) => {
+                        fair = fair.lane.open(flow, weight);
+                        Reply::Fair(fair.answer)
                     }
-                }
-                count = 0;
+                    Some(Call::CloseUrgent(flow)) => {
+                        urgent = urgent.lane.close(flow);
+                        Reply::Urgent(urgent.answer)
+                    }
+                    Some(Call::CloseFair(flow)) => {
+                        fair = fair.lane.close(flow);
+                        Reply::Fair(fair.answer)
+                    }
+                    Some(Call::OfferCell(flow, deadline)) => {
+                        urgent = urgent.lane.offer(flow, deadline);
+                        Reply::Urgent(urgent.answer)
+                    }
+                    Some(Call::OfferPacket(flow, length)) => {
+                        fair = fair.lane.offer(flow, length);
+                        Reply::Fair(fair.answer)
+                    }
+                    Some(Call::OpenTurn) => {
+                        urgent = urgent.lane.turn(true);
+                        Reply::Urgent(urgent.answer)
+                    }
+                    Some(Call::LostTurn) => {
+                        urgent = urgent.lane.turn(false);
+                        Reply::Urgent(urgent.answer)
+                    }
+                    Some(Call::Begin) => {
+                        fair = fair.lane.begin();
+                        Reply::Fair(fair.answer)
+                    }
+                    Some(Call::End) => {
+                        fair = fair.lane.end();
+                        Reply::Fair(fair.answer)
+                    }
+                    None => Reply::Urgent(urgent::Answer::Refused(Refusal::NoCommand)),
+                };
+                written = replies::print(answered, out, written);
+                line.end();
             } else {
-                if count < 32 {
-                    kept[count] = b;
-                    count += 1;
-                } else {
-                    count = 33;
-                }
+                line.keep(*b);
             }
-            i += 1;
+            read += 1;
         }
-        let urgent_lane = urgent.lane;
-        let fair_lane = fair.lane;
-        let after = Station {
-            urgent: urgent_lane,
-            fair: fair_lane,
-        };
         Fed {
-            session: Session {
-                station: after,
-                kept: kept,
-                count: count,
+            state: Session {
+                station: Station {
+                    urgent: urgent.lane,
+                    fair: fair.lane,
+                },
+                line,
             },
-            read: i,
-            written: w,
+            read,
+            written,
         }
     }
 
@@ -172,11 +117,16 @@ impl Session {
     pub fn finish(self, out: &mut [u8; 96]) -> usize
         ensures { Printed (finish_of self) out.old out.new result }
     {
-        let count = self.count;
-        if count == 0 {
+        if self.line.is_empty() {
             return 0;
         }
-        let fed = self.feed(b"\n", out);
-        fed.written
+        self.feed(b"\n", out).written
     }
+}
+
+// The call that a line asks for, were it at its end; a line of more than 32 bytes asks for none.
+fn asked(line: &Line) -> Option<Call>
+    ensures { result ≡ kept_as line.now }
+{
+    lines::parse(line.whole()?)
 }

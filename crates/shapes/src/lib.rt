@@ -4,47 +4,29 @@
 ghost use Rattle.std.specs.Prelude.{◌≡◌};
 ghost use Rattle.shapes.specs.Shapes.{shape_of};
 
-use text::Field;
-
-// A letter alone, a letter and one number, a letter and two; or none of these.
-#[derive(Clone, Copy)]
+// A letter alone, a letter and one number, or a letter and two.
+#[derive(Clone, Copy, Debug, PartialEq, Eq)]
 pub enum Shape {
     Word(u8),
     One(u8, u64),
     Two(u8, u64, u64),
-    Other,
 }
 
-// The shape of a line.
-pub fn read(line: &[u8]) -> Shape
+// The shape of a line, if it has one.
+pub fn read(line: &[u8]) -> Option<Shape>
     ensures { result ≡ shape_of line.now }
 {
-    let n = line.len();
-    if n < 1 {
-        return Shape::Other;
+    let letter = *line.first()?;
+    if line.len() == 1 {
+        return Some(Shape::Word(letter));
     }
-    let letter = line[0];
-    if n < 2 {
-        return Shape::Word(letter);
+    if line[1] != b' ' {
+        return None;
     }
-    if line[1] != 32 {
-        return Shape::Other;
+    let (a, p) = text::number(line, 2)?;
+    if p == line.len() {
+        return Some(Shape::One(letter, a));
     }
-    match text::number(line, 2) {
-        Field::Number(a, p) => {
-            if n <= p {
-                return Shape::One(letter, a);
-            }
-            match text::number(line, p + 1) {
-                Field::Number(b, q) => {
-                    if n <= q {
-                        return Shape::Two(letter, a, b);
-                    }
-                    Shape::Other
-                }
-                Field::Missing => Shape::Other,
-            }
-        }
-        Field::Missing => Shape::Other,
-    }
+    let (b, q) = text::number(line, p + 1)?;
+    (q == line.len()).then_some(Shape::Two(letter, a, b))
 }

@@ -84,7 +84,7 @@ fn answer(rt: &HostRuntime, session: Session, piece: &[u8], out: &mut [u8]) -> R
         let fed = session.feed(&piece[from..], out);
         let read = fed.read;
         let written = fed.written;
-        let next = fed.session;
+        let next = fed.state;
         session = next;
         if !write_replies(rt, &out[..written]) {
             return Ran {

@@ -1,9 +1,8 @@
 -- The digits that are put from the last one down are the number's text.
 use mathlib.Core.Path.{◌≡◌, refl, sym, ◌∙◌, ap}
 use mathlib.Core.List.{List, [], ◌∷◌, ◌++◌, append_assoc}
-use Prim.Native.Nat.{ℕ, zero, suc, ◌+◌, ◌-◌, ◌*◌, ◌/◌, ◌%◌, ◌^◌, ◌≤◌, ◌<◌}
-use native.Mathlib.Nat.{pow-suc, one-le-pow, pow-le-pow_right}
-use native.Mathlib.Numerals.{add-one}
+use Prim.Native.Nat.{ℕ, zero, suc, ◌+◌, ◌-◌, ◌/◌, ◌%◌, ◌^◌, ◌≤◌, ◌<◌}
+use native.Mathlib.Nat.{pow-suc, one-le-pow}
 use native.Mathlib.Omega.{arith}
 use lib.ListN.{length, take, drop, set, length-append, length-set, take-append-drop}
 use lib.Seq.{take-set-le, set_split, drop_at, length-take-le}
@@ -55,13 +54,10 @@ spelt place (suc k) n out l =
 
 -- one digit more, and none left
 pub spell_step : (place i rest : ℕ) (out : List ℕ) → 0 < i
-    → spelt_at place (i - 1) (rest / 10) (set out (place + (i - 1)) (48 + (rest - rest / 10 * 10))) ≡ spelt_at place i rest out
+    → spelt_at place (i - 1) (rest / 10) (set out (place + (i - 1)) (48 + rest % 10)) ≡ spelt_at place i rest out
 unfolding spelt_at
 spell_step place zero rest out l = absurd (omega arith)
-spell_step place (suc i) rest out l =
-    let e : suc i - 1 ≡ i = omega arith in
-    let m : rest - rest / 10 * 10 ≡ rest % 10 = omega arith in
-    rw (e, m)
+spell_step place (suc i) rest out l = let e : suc i - 1 ≡ i = omega arith in rw e
 
 pub spell_done : (place i rest : ℕ) (out : List ℕ) → i ≤ 0 → out ≡ spelt_at place i rest out
 unfolding spelt_at
@@ -74,18 +70,3 @@ pub number_spelt : (place n k : ℕ) (out : List ℕ) → Digits n k → place +
 number_spelt place n k out d l =
     let w = decimal_written n k d in
     (spelt place k n out l ∙ rw w, sym (ap length w) ∙ last_long k n)
-
--- counting the digits: one power of ten more, and the last one that a number of the machine can reach
-pub digits_next : (n k above : ℕ) → 1 ≤ k → above ≡ 10 ^ k → above ≤ n → (above * 10 ≡ 10 ^ (k + 1)) × (1 < k + 1 → 10 ^ (k + 1 - 1) ≤ n)
-digits_next n k above l e h =
-    let s : k + 1 - 1 ≡ k = omega arith in
-    (rw (add-one k, e) (sym (pow-suc 10 k)), λ z. rw s (omega arith))
-
-pub power_fits : (k above : ℕ) → k ≤ 18 → above ≡ 10 ^ k → above * 10 < 18446744073709551616
-power_fits k above l e = omega (arith, pow-le-pow_right {n = 10} (omega arith) {i = k} {j = 18} l)
-
-pub digits_twenty : (n k above : ℕ) → n < 18446744073709551616 → k ≡ 19 → above ≡ 10 ^ k → above ≤ n → Digits n 20
-digits_twenty n k above u k19 e h =
-    let p : above ≡ 10 ^ 19 = e ∙ ap (λ (j : ℕ). 10 ^ j) k19 in
-    let least : 10 ^ 19 ≤ n = omega arith in
-    record { some = omega arith; few = omega arith; below = omega arith; least = λ z. least }

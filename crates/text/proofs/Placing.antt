@@ -1,12 +1,9 @@
 -- Text put into bytes at a place: each step of a copy, a number, and piece after piece.
 use mathlib.Core.Path.{◌≡◌, refl, sym, ◌∙◌, ap}
 use mathlib.Core.List.{List, [], ◌∷◌, ◌++◌, map, append_assoc, append-nil}
-use Prim.Native.Nat.{ℕ, ◌+◌, ◌-◌, ◌≤◌, ◌<◌, min}
+use Prim.Native.Nat.{ℕ, ◌+◌, ◌≤◌, ◌<◌}
 use native.Mathlib.Numerals.{add-one}
 use native.Mathlib.Omega.{arith}
-use native.Mathlib.Decide.{dec_le}
-use borrow.Author.Tests.{le-leb, lt-leb}
-use lib.Dec.{leb}
 use lib.ListN.{length, take, drop, get_or, set, length-append, length-set, length-take, length-drop, take-append-drop}
 use lib.Seq.{paste, paste-suc, length-paste, length-take-le, take_all, take-suc, take_at, drop_at, drop-drop, take-suc-set, drop-set-lt}
 use Rattle.text.specs.Decimal.{decimal_of, Digits, spelt_at}
@@ -80,34 +77,19 @@ put_number n k place was is d l e =
     let p : Put (decimal_of n) w (place + 1) is (place + 1 + k) = record { bytes = b; counted = omega (arith, s.1); long = c } in
     (put_then (omega arith) (put_byte was place blank (omega arith)) p, omega (arith, f))
 
--- room counted part by part
-pub leb_left : (room place long more : ℕ) → place ≤ room → long ≤ room - place → leb more (room - place - long) ≡ leb (place + (long + more)) room
-leb_left room place long more l h = go (dec_le more (room - place - long))
-  where
-    go : Dec (more ≤ room - place - long) → leb more (room - place - long) ≡ leb (place + (long + more)) room
-    go (yes k) = rw (le-leb more (room - place - long) k, le-leb (place + (long + more)) room (omega arith))
-    go (no k) = rw (lt-leb more (room - place - long) (omega arith), lt-leb (place + (long + more)) room (omega arith))
-
 -- one number more of a part
 parts_snoc : (ns : List ℕ) (n : ℕ) → parts_of (map decimal_of (ns ++ n ∷ [])) ≡ parts_of (map decimal_of ns) ++ blank ∷ decimal_of n
 parts_snoc [] n = rw (append-nil (decimal_of n))
 parts_snoc (m ∷ ns) n = rw (parts_snoc ns n, append_assoc (decimal_of m) (parts_of (map decimal_of ns)) (blank ∷ decimal_of n))
 
-pub parts_next : {was mid is : List ℕ} {start place next : ℕ} (numbers : List ℕ) (i : ℕ) → start ≤ length was → i < length numbers
-    → Put (parts_of (map decimal_of (take i numbers))) was start mid place → Put (blank ∷ decimal_of (get_or numbers i 0)) mid place is next
-    → Put (parts_of (map decimal_of (take (i + 1) numbers))) was start is next
-parts_next {was} {mid} {is} {start} {place} {next} numbers i l h p q =
+pub part_next : {was mid is : List ℕ} {start place next : ℕ} (word numbers : List ℕ) (i : ℕ) → start ≤ length was → i < length numbers
+    → Put (part_with word (map decimal_of (take i numbers))) was start mid place → Put (blank ∷ decimal_of (get_or numbers i 0)) mid place is next
+    → Put (part_with word (map decimal_of (take (i + 1) numbers))) was start is next
+part_next {was} {mid} {is} {start} {place} {next} word numbers i l h p q =
     let t : take (i + 1) numbers ≡ take i numbers ++ get_or numbers i 0 ∷ [] = rw add-one (take-suc numbers i 0 h) in
-    let e : parts_of (map decimal_of (take (i + 1) numbers)) ≡ parts_of (map decimal_of (take i numbers)) ++ blank ∷ decimal_of (get_or numbers i 0) = rw t (parts_snoc (take i numbers) (get_or numbers i 0)) in
+    let e : part_with word (map decimal_of (take (i + 1) numbers)) ≡ part_with word (map decimal_of (take i numbers)) ++ blank ∷ decimal_of (get_or numbers i 0) =
+    ap (part_with word) (ap (map decimal_of) t) ∙ ap (λ (fields : List ℕ). word ++ fields) (parts_snoc (take i numbers) (get_or numbers i 0)) ∙ sym (append_assoc word (parts_of (map decimal_of (take i numbers))) (blank ∷ decimal_of (get_or numbers i 0))) in
     rw e (put_then l p q)
-
--- three numbers are all that a count beyond three takes
-pub take_three : (numbers : List ℕ) (count most : ℕ) → length numbers ≡ 3 → most ≡ min count 3 → take most numbers ≡ take count numbers
-take_three numbers count most l e = go (dec_le count 3)
-  where
-    go : Dec (count ≤ 3) → take most numbers ≡ take count numbers
-    go (yes h) = let m : most ≡ count = omega arith in rw m
-    go (no h) = let m : most ≡ 3 = omega arith in rw (m, take_all 3 numbers (omega arith), take_all count numbers (omega arith))
 
 -- a line is its part and a line feed
 line_part : (word : List ℕ) (fields : List (List ℕ)) → part_with word fields ++ line_feed ∷ [] ≡ line_with word fields

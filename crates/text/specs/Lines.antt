@@ -1,5 +1,5 @@
 -- A line of text: a word, each field after one blank, and a line feed; and text put into bytes at a place.
-use Rattle.std.specs.Prelude.{List, [], ◌∷◌, ◌++◌, ◌≡◌, ℕ, ◌+◌, ◌*◌, ◌≤◌, ◌<◌, min, length, take, drop}
+use Rattle.std.specs.Prelude.{List, [], ◌∷◌, ◌++◌, ◌≡◌, ℕ, ◌+◌, ◌*◌, ◌≤◌, ◌<◌, length, take, drop}
 use Rattle.text.specs.Decimal.{decimal_of}
 use Rattle.text.specs.Reading.{blank}
 
@@ -35,9 +35,9 @@ line_with word fields = word ++ fields_of fields
 abbrev pub refusal_line : ℕ → List ℕ
 refusal_line number = line_with no_word (decimal_of number ∷ [])
 
--- room that a word and so many numbers always have enough of, three of them at most
+-- room that a word and so many numbers always have enough of
 abbrev pub room_for : List ℕ → ℕ → ℕ
-room_for word count = length word + min count 3 * 21
+room_for word count = length word + count * 21
 
 -- the text stands from a place on, the rest is as it was, and the place after it is handed back
 pub record Put (text was : List ℕ) (place : ℕ) (is : List ℕ) (next : ℕ) : Type 0 where

@@ -1,7 +1,5 @@
 -- What is read of a number in a line, byte by byte.
 use Rattle.std.specs.Prelude.{Bool, cond, ◌&&◌, List, [], ◌∷◌, ◌≡◌, ℕ, ◌+◌, ◌-◌, ◌*◌, ◌≤◌, leb, eqb, length, drop, Option, None, Some}
-use Rattle.text.specs.declared.Field.{Field}
-use Rattle.text.specs.declared.Field.TheVariants.{Number, Missing}
 
 -- what stands between two fields of a line
 abbrev pub blank : ℕ
@@ -37,7 +35,7 @@ abbrev pub read_number : List ℕ → Option Taken
 read_number [] = None
 read_number (b ∷ bs) = cond (is_digit b) (read_on (b - 48) bs) None
 
--- a field of a line as it was taken: its number, and the place from which the rest stands
-abbrev pub Reads : List ℕ → Field → Option Taken → Type 0
-Reads line (Number value next) taken = (next ≤ length line) × (taken ≡ Some (value, drop next line))
-Reads line Missing taken = taken ≡ None
+-- a number of a line as it was taken, and the place from which the rest stands
+abbrev pub Reads : List ℕ → Option (ℕ × ℕ) → Option Taken → Type 0
+Reads line (Some (value, next)) taken = (next ≤ length line) × (taken ≡ Some (value, drop next line))
+Reads line None taken = taken ≡ None

@@ -4,12 +4,5 @@
 mod reading;
 mod writing;
 
-pub use reading::{digit, goes_on, number};
+pub use reading::{grow, number};
 pub use writing::{line, part};
-
-// A number and the place where it ends, or none.
-#[derive(Clone, Copy)]
-pub enum Field {
-    Number(u64, usize),
-    Missing,
-}

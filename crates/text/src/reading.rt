@@ -1,62 +1,39 @@
 // Reading a number of a line.
-ghost use Rattle.std.specs.Prelude.{◌≡◌, drop};
-ghost use Rattle.text.specs.Reading.{is_digit, goes_on, read_number, Reads};
-
-use crate::Field;
+ghost use Rattle.std.specs.Prelude.{◌≡◌, cond, drop, Some, None};
+ghost use Rattle.text.specs.Reading.{grown, goes_on, read_number, Reads};
 
 // The largest number that a line may hold.
 const LARGEST: u64 = 4_294_967_295;
 
-// The number that starts at a place and ends before the next blank, or with the line; none starts past the end.
-pub fn number(line: &[u8], from: usize) -> Field
+// The number that starts at a place and ends before the next blank, or with the line, and the place where it ends; none starts past
+// the end.
+pub fn number(line: &[u8], from: usize) -> Option<(u64, usize)>
     ensures { Reads line.now result (read_number (drop from line.now)) }
 {
-    let n = line.len();
-    if n <= from {
-        return Field::Missing;
+    let first = *line.get(from)?;
+    if !first.is_ascii_digit() {
+        return None;
     }
-    let first = line[from];
-    if !digit(first) {
-        return Field::Missing;
-    }
-    let mut value = (first - 48) as u64;
-    let mut i = from + 1;
-    while i < n {
-        let b = line[i];
-        if b == 32 {
-            return Field::Number(value, i);
+    let mut value = u64::from(first - b'0');
+    let rest = &line[from + 1..];
+    for (i, b) in rest.iter().enumerate() {
+        if *b == b' ' {
+            return Some((value, from + 1 + i));
         }
-        if !goes_on(value, b) {
-            return Field::Missing;
-        }
-        value = value * 10 + (b - 48) as u64;
-        i += 1;
+        value = grow(value, *b)?;
     }
-    Field::Number(value, i)
+    Some((value, line.len()))
 }
 
-// Whether a byte is a digit.
-pub fn digit(b: u8) -> bool
-    ensures { result ≡ is_digit b }
+// The number with one digit more, where it goes on with this byte: no zero stands in front, and it stays within the largest.
+pub fn grow(value: u64, b: u8) -> Option<u64>
+    ensures { result ≡ cond (goes_on value b) (Some (grown value b)) None }
 {
-    if b < 48 {
-        return false;
+    if value == 0 || !b.is_ascii_digit() {
+        return None;
     }
-    b <= 57
-}
-
-// Whether a number goes on with this byte: no zero stands in front, and it stays within the largest.
-pub fn goes_on(value: u64, b: u8) -> bool
-    ensures { result ≡ goes_on value b }
-{
-    if !digit(b) {
-        return false;
-    }
-    if value < 1 {
-        return false;
-    }
-    if LARGEST < value {
-        return false;
-    }
-    value * 10 + (b - 48) as u64 <= LARGEST
+    value
+        .checked_mul(10)?
+        .checked_add(u64::from(b - b'0'))
+        .filter(|n| *n <= LARGEST)
 }

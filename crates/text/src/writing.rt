@@ -1,76 +1,46 @@
 // Writing a word and numbers into lent bytes, at a place.
-ghost use Rattle.std.specs.Prelude.{◌≡◌, ◌∷◌, map, ◌+◌, ◌*◌, ◌≤◌, min, leb, length, take};
+ghost use Rattle.std.specs.Prelude.{◌≡◌, ◌∷◌, map, ◌+◌, ◌*◌, ◌≤◌, leb, length};
 ghost use Rattle.text.specs.Decimal.{decimal_of, Digits, spelt_at};
 ghost use Rattle.text.specs.Reading.{blank};
-ghost use Rattle.text.specs.Lines.{parts_of, part_with, line_with, room_for, Put, Placed};
+ghost use Rattle.text.specs.Lines.{part_with, line_with, room_for, Put, Placed};
 
-// Puts a word and the first count of three numbers at a place, each number after one blank, and answers the place after them; with
-// too little room nothing, and answers the place.
-pub fn part(out: &mut [u8], at: usize, word: &[u8], numbers: [u64; 3], count: usize) -> usize
-    ensures { Placed (room_for word.now count) (part_with word.now (map decimal_of (take count numbers))) out.old at out.new result }
+// Puts a word and numbers at a place, each number after one blank, and answers the place after them; with too little room nothing,
+// and answers the place.
+pub fn part(out: &mut [u8], at: usize, word: &[u8], numbers: &[u64]) -> usize
+    ensures { Placed (room_for word.now (length numbers.now)) (part_with word.now (map decimal_of numbers.now)) out.old at out.new result }
 {
-    let most = at_most_three(count);
-    let room = out.len();
-    let long = word.len();
-    if !roomy(room, at, long, most * 21) {
+    if !roomy(out.len(), at, word.len(), numbers.len(), 0) {
         return at;
     }
-    let p = put(out, at, word);
-    fields(out, p, numbers, count)
+    let mut p = put(out, at, word);
+    for n in numbers {
+        p = field(out, p, *n);
+    }
+    p
 }
 
 // Puts a whole line, which is such a part and a line feed.
-pub fn line(out: &mut [u8], at: usize, word: &[u8], numbers: [u64; 3], count: usize) -> usize
-    ensures { Placed (room_for word.now count + 1) (line_with word.now (map decimal_of (take count numbers))) out.old at out.new result }
+pub fn line(out: &mut [u8], at: usize, word: &[u8], numbers: &[u64]) -> usize
+    ensures { Placed (room_for word.now (length numbers.now) + 1) (line_with word.now (map decimal_of numbers.now)) out.old at out.new result }
 {
-    let most = at_most_three(count);
-    let room = out.len();
-    let long = word.len();
-    if !roomy(room, at, long, most * 21 + 1) {
+    if !roomy(out.len(), at, word.len(), numbers.len(), 1) {
         return at;
     }
-    let p = part(out, at, word, numbers, count);
-    out[p] = 10;
+    let p = part(out, at, word, numbers);
+    out[p] = b'\n';
     p + 1
 }
 
-// A count, three at most.
-fn at_most_three(count: usize) -> usize
-    ensures { result ≡ min count 3 }
+// Whether a word, so many numbers and so many bytes more have room from a place on.
+fn roomy(room: usize, at: usize, word: usize, numbers: usize, more: usize) -> bool
+    ensures { result ≡ leb (at + (word + numbers * 21 + more)) room }
 {
-    if count < 3 {
-        return count;
-    }
-    3
-}
-
-// Whether so many bytes and so many more have room from a place on.
-fn roomy(room: usize, at: usize, long: usize, more: usize) -> bool
-    ensures { result ≡ leb (at + (long + more)) room }
-{
-    if room < at {
-        return false;
-    }
-    let left = room - at;
-    if left < long {
-        return false;
-    }
-    more <= left - long
-}
-
-// Puts the first count of the numbers, each after one blank, and answers the place after them.
-fn fields(out: &mut [u8], at: usize, numbers: [u64; 3], count: usize) -> usize
-    requires { at + min count 3 * 21 ≤ length out.old }
-    ensures { Put (parts_of (map decimal_of (take count numbers))) out.old at out.new result × (result ≤ at + min count 3 * 21) }
-{
-    let most = at_most_three(count);
-    let mut p = at;
-    let mut i = 0;
-    while i < most {
-        p = field(out, p, numbers[i]);
-        i += 1;
-    }
-    p
+    numbers
+        .checked_mul(21)
+        .and_then(|long| long.checked_add(word))
+        .and_then(|long| long.checked_add(more))
+        .and_then(|long| long.checked_add(at))
+        .is_some_and(|end| end <= room)
 }
 
 // Puts one blank and a number at a place, and answers the place after them.
@@ -78,7 +48,7 @@ fn field(out: &mut [u8], at: usize, n: u64) -> usize
     requires { at + 21 ≤ length out.old }
     ensures { Put (blank ∷ decimal_of n) out.old at out.new result × (result ≤ at + 21) }
 {
-    out[at] = 32;
+    out[at] = b' ';
     let k = digits(n);
     let from = at + 1;
     spell(out, from, n, k);
@@ -89,16 +59,7 @@ fn field(out: &mut [u8], at: usize, n: u64) -> usize
 fn digits(n: u64) -> usize
     ensures { Digits n result }
 {
-    let mut k = 1;
-    let mut above: u64 = 10;
-    while above <= n {
-        if k == 19 {
-            return 20;
-        }
-        above *= 10;
-        k += 1;
-    }
-    k
+    n.checked_ilog10().map_or(1, |k| k as usize + 1)
 }
 
 // Puts the last k digits of a number at a place, from the last one down.
@@ -107,12 +68,9 @@ fn spell(out: &mut [u8], at: usize, n: u64, k: usize)
     ensures { out.new ≡ spelt_at at k n out.old }
 {
     let mut rest = n;
-    let mut i = k;
-    while 0 < i {
-        let tenth = rest / 10;
-        i -= 1;
-        out[at + i] = 48 + (rest - tenth * 10) as u8;
-        rest = tenth;
+    for i in (0..k).rev() {
+        out[at + i] = b'0' + (rest % 10) as u8;
+        rest /= 10;
     }
 }
 
@@ -121,11 +79,7 @@ fn put(out: &mut [u8], at: usize, text: &[u8]) -> usize
     requires { at + length text.now ≤ length out.old }
     ensures { Put text.now out.old at out.new result }
 {
-    let n = text.len();
-    let mut i = 0;
-    while i < n {
-        out[at + i] = text[i];
-        i += 1;
-    }
-    at + n
+    let end = at + text.len();
+    out[at..end].copy_from_slice(text);
+    end
 }

@@ -1,16 +1,13 @@
--- The invariant of `Session::feed`: both lanes and the line kept make the session to which the first i bytes of the input lead, and what
--- they wrote stands at the start of the output. The measure is the bytes left.
-use Rattle.std.proofs.Common.{◌-◌, ◌≤◌, length}
+-- The invariant of `Session::feed`: both lanes and the line kept make the session to which the bytes taken of the input lead, and what
+-- they wrote stands at the start of the output.
+use Rattle.std.proofs.Common.{◌≡◌}
 use Rattle.text.proofs.Feeding.{Going}
 use Rattle.replies.specs.Printing.{longest}
 use Rattle.session.specs.Steps.{step_of}
 use Rattle.session.proofs.Steps.{together}
 use Rattle.session.proofs.Session.feed.Given as goal
 
-abbrev pub invariant-loop-i : goal.invariant-loop-i
-invariant-loop-i l =
+abbrev pub invariant-loop-b : goal.invariant-loop-b
+invariant-loop-b l =
     let s = l.initial in
-    (l.i ≤ length l.input) × Going step_of longest (together s.urgent s.fair s.kept s.count) l.input s.out l.out (together l.urgent l.fair l.kept l.count) l.i l.w
-
-abbrev pub decreases-loop-i : goal.decreases-loop-i
-decreases-loop-i l = length l.input - l.i
+    (l.read ≡ l.b-index) × Going step_of longest (together s.urgent s.fair s.line) l.input s.out l.out (together l.urgent l.fair l.line) l.read l.written

@@ -7,4 +7,4 @@ use Rattle.session.proofs.Steps.{finish_text}
 use Rattle.session.proofs.Session.finish.Goals as goal
 
 pub returns : goal.returns
-returns c = fed_printed step_of longest c.feed-fed.ensures (finish_text c.args.self c.if-count-eq0.false) (search rules) (search rules)
+returns c = fed_printed step_of longest c.feed.ensures (finish_text c.args.self (search rules)) (search rules) (search rules)
