@@ -1,14 +1,11 @@
 -- The cases of a way up, whatever is done at a child and at the root; and what is left of it on the way.
 use mathlib.Core.Path.{◌≡◌, refl, ◌∙◌}
-use Prim.Native.Nat.{ℕ, zero, suc, ◌+◌, ◌≤◌, ◌<◌}
+use Prim.Native.Nat.{ℕ, zero, suc, ◌≤◌, ◌<◌}
 use native.Mathlib.Omega.{arith}
 use borrow.Author.Tests.{le-leb, lt-leb}
-use lib.ListN.{length}
-use Rattle.tree.specs.declared.Node.{Node}
-use Rattle.tree.specs.declared.Class.{Class}
 use Rattle.tree.specs.declared.Tree.{Tree}
-use Rattle.tree.specs.Tree.{node_at, with_node}
-use Rattle.ascent.specs.Ascent.{with_times, climb, offer_step, offer_top, offered_to, end_step, end_top, ended_from}
+use Rattle.tree.specs.Tree.{node_at}
+use Rattle.ascent.specs.Ascent.{climb}
 
 module _ (step : Tree → ℕ → ℕ → Tree) (top : Tree → ℕ → Tree) where
   module _ (t : Tree) (k : ℕ) where
@@ -36,33 +33,18 @@ module _ (step : Tree → ℕ → ℕ → Tree) (top : Tree → ℕ → Tree) wh
 
   -- of a way up n nodes at most are left, from place k of the tree t, and they give the whole
   abbrev pub Remains : Tree → ℕ → Tree → ℕ → Type 0
-  Remains whole n t k = (k < 47) × (length t.nodes ≡ 47) × (length t.classes ≡ 31) × (climb step top n t k ≡ whole)
+  Remains whole n t k = (k < 47) × (climb step top n t k ≡ whole)
 
   module _ (whole : Tree) (n : ℕ) (t : Tree) (k : ℕ) (r : Remains whole n t k) where
     -- no node is left of it
     pub way_ends : n ≤ 0 → t ≡ whole
-    way_ends h = climb_0 t k n h ∙ r.3
+    way_ends h = climb_0 t k n h ∙ r.1
 
     module _ (left : ℕ) (some : n ≡ suc left) where
       -- it has come to the root
       pub way_tops : 31 ≤ (node_at t k).parent → top t k ≡ whole
-      way_tops h = climb_root t k n left some r.0 h ∙ r.3
+      way_tops h = climb_root t k n left some r.0 h ∙ r.1
 
       -- it goes on from a child to the class above
-      pub way_goes_on : (node_at t k).parent < 31 → (t' : Tree) → t' ≡ step t k (node_at t k).parent → length t'.nodes ≡ 47 → length t'.classes ≡ 31
-          → Remains whole left t' (node_at t k).parent
-      way_goes_on h t' e l l' = (omega arith, l, l', rw e (climb_on t k n left some r.0 h) ∙ r.3)
-
--- a node and the times of a class, stored as they are worked out
-pub both_stored : (t : Tree) (k up : ℕ) (x y : Node) (c d : Class) → x ≡ y → c ≡ d → with_times (with_node t k x) up c ≡ with_times (with_node t k y) up d
-both_stored t k up x y c d e f = rw (e, f)
-
--- what an offer and an end are the ways up of
-module _ (t : Tree) (flow : ℕ) where
-  pub offer_climbs : climb offer_step offer_top 5 t (31 + flow) ≡ offered_to t flow
-  unfolding offered_to
-  offer_climbs = refl
-
-  pub end_climbs : climb end_step end_top 5 t (31 + flow) ≡ ended_from t flow
-  unfolding ended_from
-  end_climbs = refl
+      pub way_goes_on : (node_at t k).parent < 31 → (t' : Tree) → t' ≡ step t k (node_at t k).parent → Remains whole left t' (node_at t k).parent
+      way_goes_on h t' e = (omega arith, rw e (climb_on t k n left some r.0 h) ∙ r.1)

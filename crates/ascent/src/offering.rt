@@ -1,32 +1,34 @@
 // A packet is offered: each node on its flow's way up counts it, and starts where nothing waited below it.
 ghost use Rattle.std.specs.Prelude.{◌≡◌};
-ghost use Rattle.ascent.specs.Ascent.{offered_to};
+ghost use Rattle.ascent.specs.Ascent.{offer_step, offer_top, offered_to};
 
+use crate::Way;
 use tree::Tree;
-use units::LAST_FLOW;
+
+// An offer on its way up.
+#[derive(Clone, Copy)]
+struct Offering;
+
+impl Way for Offering {
+    ghost step = { λ way. offer_step };
+
+    ghost top = { λ way. offer_top };
+
+    // A child counts the packet, and may start at the time of the class that it hangs from.
+    fn child(&self, tree: &mut Tree, k: usize, up: usize) {
+        tree.nodes[k] = tree::offered(tree.nodes[k], tree.classes[up].time);
+    }
+
+    // The root counts it.
+    fn root(&self, tree: &mut Tree, k: usize) {
+        tree.nodes[k] = tree::offered_root(tree.nodes[k]);
+    }
+}
 
 // The tree after an offer to this flow.
-pub fn offer(mut tree: Tree, flow: u64) -> Tree
+#[tactic(auto, unfolding(crate::specs::Ascent::offered_to))]
+pub fn offer(tree: Tree, flow: u64) -> Tree
     ensures { result ≡ offered_to tree flow }
 {
-    if LAST_FLOW < flow {
-        return tree;
-    }
-    let mut k: usize = 31 + flow as usize;
-    let mut left: u64 = 5;
-    while 0 < left {
-        let x = tree.nodes[k];
-        let up = x.parent as usize;
-        if 31 <= up {
-            let root = tree::offered_root(x);
-            tree.nodes[k] = root;
-            return tree;
-        }
-        let class = tree.classes[up];
-        let child = tree::offered(x, class.time);
-        tree.nodes[k] = child;
-        k = up;
-        left -= 1;
-    }
-    tree
+    crate::climb(&Offering, tree, flow)
 }

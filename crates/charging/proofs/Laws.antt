@@ -1,4 +1,4 @@
--- The cases of the finishes on a way up; and what a begin is the way up of.
+-- The cases of the finishes on a way up.
 use mathlib.Core.Path.{◌≡◌, refl}
 use mathlib.Core.Bool.{true, false}
 use Prim.Native.Nat.{ℕ, zero, suc, ◌+◌, ◌≤◌, ◌<◌}
@@ -7,13 +7,9 @@ use borrow.Author.Tests.{le-leb, lt-leb}
 use Rattle.tree.specs.declared.Tree.{Tree}
 use Rattle.tree.specs.Tree.{node_at}
 use Rattle.tree.specs.Steps.{is_beyond, finish_for}
-use Rattle.ascent.specs.Ascent.{climb, begin_step, begin_top, begun_from, passes, passes_for}
+use Rattle.ascent.specs.Ascent.{passes, passes_for}
 
 module _ (t : Tree) (length : ℕ) where
-  pub begin_climbs : (flow : ℕ) → climb (begin_step length) begin_top 5 t (31 + flow) ≡ begun_from t flow length
-  unfolding begun_from
-  begin_climbs flow = refl
-
   -- what the call asks for
   pub passes_climbs : (flow : ℕ) → passes 5 t (31 + flow) length ≡ passes_for t flow length
   unfolding passes_for

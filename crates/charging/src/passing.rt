@@ -2,6 +2,7 @@
 ghost use Rattle.std.specs.Prelude.{◌≡◌};
 ghost use Rattle.ascent.specs.Ascent.{passes_for};
 
+use ascent::LONGEST_WAY;
 use tree::Tree;
 use units::LAST_FLOW;
 
@@ -12,9 +13,8 @@ pub fn passes(tree: &Tree, flow: u64, length: u64) -> bool
     if LAST_FLOW < flow {
         return false;
     }
-    let mut k: usize = 31 + flow as usize;
-    let mut left: u64 = 5;
-    while 0 < left {
+    let mut k = 31 + flow as usize;
+    for _ in 0..LONGEST_WAY {
         let x = tree.nodes[k];
         let up = x.parent as usize;
         if 31 <= up {
@@ -24,7 +24,6 @@ pub fn passes(tree: &Tree, flow: u64, length: u64) -> bool
             return true;
         }
         k = up;
-        left -= 1;
     }
     false
 }

@@ -46,7 +46,6 @@ impl Tree {
     pub fn flow_node(&self, flow: u64) -> Node
         ensures { result ≡ node_at self.now (node_of flow) }
     {
-        let nodes = self.nodes;
         if LAST_FLOW < flow {
             return Node {
                 parent: 0,
@@ -56,29 +55,17 @@ impl Tree {
                 finish: Tag(0),
             };
         }
-        nodes[31 + flow as usize]
+        self.nodes[31 + flow as usize]
     }
 
     // The tree where a flow has this weight among the children of its class.
-    pub fn weigh(self, flow: u64, weight: u64) -> Tree
+    pub fn weigh(mut self, flow: u64, weight: u64) -> Tree
         ensures { result ≡ with_node self (node_of flow) (weighed_node weight (node_at self (node_of flow))) }
     {
-        if LAST_FLOW < flow {
-            return self;
+        if flow <= LAST_FLOW {
+            let place = 31 + flow as usize;
+            self.nodes[place].weight = weight;
         }
-        let k = 31 + flow as usize;
-        let mut nodes = self.nodes;
-        let x = nodes[k];
-        let start = x.start;
-        let finish = x.finish;
-        nodes[k] = Node {
-            parent: x.parent,
-            weight: weight,
-            waiting: x.waiting,
-            start: start,
-            finish: finish,
-        };
-        let classes = self.classes;
-        Tree { nodes, classes }
+        self
     }
 }

@@ -1,6 +1,6 @@
 // What becomes of one node, and of the times of one class, where a packet below it is offered, begun or ended.
-ghost use Rattle.std.specs.Prelude.{◌≡◌, ◌-◌};
-ghost use Rattle.tree.specs.Steps.{with_tags, offered_node, offered_root, is_beyond, finish_for, begun_node, begun_root, begun_class, ended_node, ended_class};
+ghost use Rattle.std.specs.Prelude.{◌≡◌};
+ghost use Rattle.tree.specs.Steps.{offered_node, offered_root, is_beyond, finish_for, begun_node, begun_root, begun_class, ended_node, ended_class};
 
 use crate::{Class, Node};
 use tags::Finish;
@@ -10,21 +10,27 @@ use units::Tag;
 pub fn offered(x: Node, time: Tag) -> Node
     ensures { result ≡ offered_node time x }
 {
-    let waiting = std::num::wrapping_add_u64(x.waiting, 1);
-    let last = x.finish;
-    if x.waiting == 0 {
-        let start = tags::later(time, last);
-        return with_tags(x, waiting, start, last);
+    let waiting = x.waiting.wrapping_add(1);
+    let start = if x.waiting == 0 {
+        tags::later(time, x.finish)
+    } else {
+        x.start
+    };
+    Node {
+        waiting,
+        start,
+        ..x
     }
-    with_tags(x, waiting, x.start, last)
 }
 
 // The root below which a packet is offered.
 pub fn offered_root(x: Node) -> Node
     ensures { result ≡ offered_root x }
 {
-    let more = std::num::wrapping_add_u64(x.waiting, 1);
-    with_tags(x, more, x.start, x.finish)
+    Node {
+        waiting: x.waiting.wrapping_add(1),
+        ..x
+    }
 }
 
 // Whether the finish of a child would pass the largest tag, if a packet of this length were begun below it.
@@ -42,29 +48,33 @@ pub fn passes(x: Node, length: u64) -> bool
 pub fn begun(x: Node, length: u64) -> Node
     ensures { result ≡ begun_node length x }
 {
-    let waiting = one_less(x.waiting);
+    let waiting = x.waiting.saturating_sub(1);
     let ends = tags::finish_of(x.start, length, x.weight);
     let Finish::At(finish) = ends else {
-        return with_tags(x, waiting, x.start, x.finish);
+        return Node { waiting, ..x };
     };
-    with_tags(x, waiting, x.start, finish)
+    Node {
+        waiting,
+        finish,
+        ..x
+    }
 }
 
 // The root below which a packet is begun.
 pub fn begun_root(x: Node) -> Node
     ensures { result ≡ begun_root x }
 {
-    let fewer = one_less(x.waiting);
-    with_tags(x, fewer, x.start, x.finish)
+    Node {
+        waiting: x.waiting.saturating_sub(1),
+        ..x
+    }
 }
 
 // The times of a class where a packet is begun below its child x.
 pub fn begun_class(x: Node, c: Class) -> Class
     ensures { result ≡ begun_class x c }
 {
-    let time = x.start;
-    let largest = c.largest;
-    Class { time, largest }
+    Class { time: x.start, ..c }
 }
 
 // A child below which a packet ended.
@@ -72,9 +82,13 @@ pub fn ended(x: Node) -> Node
     ensures { result ≡ ended_node x }
 {
     if 0 < x.waiting {
-        return with_tags(x, x.waiting, x.finish, x.finish);
+        Node {
+            start: x.finish,
+            ..x
+        }
+    } else {
+        x
     }
-    x
 }
 
 // The times of a class whose node is `up` where a packet ended below its child x.
@@ -82,32 +96,6 @@ pub fn ended_class(x: Node, up: Node, c: Class) -> Class
     ensures { result ≡ ended_class x up c }
 {
     let largest = tags::later(c.largest, x.finish);
-    let mut time = c.time;
-    if up.waiting == 0 {
-        time = largest;
-    }
+    let time = if up.waiting == 0 { largest } else { c.time };
     Class { time, largest }
-}
-
-// The node with another count of what waits below it, another start and another finish.
-fn with_tags(x: Node, waiting: u64, start: Tag, finish: Tag) -> Node
-    ensures { result ≡ with_tags x waiting start finish }
-{
-    Node {
-        parent: x.parent,
-        weight: x.weight,
-        waiting: waiting,
-        start: start,
-        finish: finish,
-    }
-}
-
-// A count when one has gone: none stays none.
-fn one_less(count: u64) -> u64
-    ensures { result ≡ count - 1 }
-{
-    if count == 0 {
-        return 0;
-    }
-    count - 1
 }

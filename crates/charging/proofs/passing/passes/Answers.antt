@@ -8,29 +8,29 @@ returns-then-flow-gt-LAST_FLOW c =
     let a = c.args in
     passes_off a.tree.now a.length (31 + a.flow) 5 (search rules) ∙ passes_climbs a.tree.now a.length a.flow
 
-pub loop-left-init : goal.loop-left-init
-loop-left-init c = (omega arith, passes_climbs c.args.tree.now c.args.length c.args.flow)
+pub loop-init : goal.loop-init
+loop-init c = (omega arith, passes_climbs c.args.tree.now c.args.length c.args.flow)
 
 pub returns-then-up-ge31 : goal.returns-then-up-ge31
 returns-then-up-ge31 c =
     let a = c.args in
-    let s = c.loop-left in
-    passes_root a.tree.now a.length s.k s.left (s.left - 1) (omega arith) s.invariant.0 c.if-up-ge31.true ∙ s.invariant.1
+    let s = c.loop in
+    passes_root a.tree.now a.length s.k (5 - s.counter) (5 - (s.counter + 1)) (omega arith) s.invariant.0 c.if-up-ge31.true ∙ s.invariant.1
 
 pub returns-then-passes : goal.returns-then-passes
 returns-then-passes c =
     let a = c.args in
-    let s = c.loop-left in
-    passes_here a.tree.now a.length s.k s.left (s.left - 1) (omega arith) s.invariant.0 c.if-up-ge31.false (sym c.if-passes.ensures) ∙ s.invariant.1
+    let s = c.loop in
+    passes_here a.tree.now a.length s.k (5 - s.counter) (5 - (s.counter + 1)) (omega arith) s.invariant.0 c.if-up-ge31.false (sym c.if-passes.ensures) ∙ s.invariant.1
 
-pub loop-left-preserved : goal.loop-left-preserved
-loop-left-preserved c =
+pub loop-preserved : goal.loop-preserved
+loop-preserved c =
     let a = c.args in
-    let s = c.loop-left in
-    (search rules, passes_on a.tree.now a.length s.k s.left (s.left - 1) (omega arith) s.invariant.0 c.if-up-ge31.false (sym c.if-passes.ensures) ∙ s.invariant.1)
+    let s = c.loop in
+    (search rules, passes_on a.tree.now a.length s.k (5 - s.counter) (5 - (s.counter + 1)) (omega arith) s.invariant.0 c.if-up-ge31.false (sym c.if-passes.ensures) ∙ s.invariant.1)
 
 pub returns : goal.returns
 returns c =
     let a = c.args in
-    let s = c.loop-left in
-    passes_0 a.tree.now a.length s.k s.left (omega arith) ∙ s.invariant.1
+    let s = c.loop in
+    passes_0 a.tree.now a.length s.k (5 - s.counter) (omega arith) ∙ s.invariant.1
