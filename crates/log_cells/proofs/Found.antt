@@ -4,7 +4,7 @@ use mathlib.Core.List.{List}
 use Prim.Native.Nat.{ℕ, ◌<◌}
 use lib.ListN.{length, get_or}
 use Rattle.log_format.specs.declared.Form.{Form}
-use Rattle.log_format.specs.declared.Found.TheVariants.{Word}
+use Rattle.std.specs.Prelude.{Some}
 use Rattle.log_format.specs.Format.{Opening, Event, Log, GoodLog, GoodEvents}
 use Rattle.log_format.specs.Words.{event_of, event_word}
 use Rattle.log_format.specs.Own.{own_event}
@@ -35,8 +35,8 @@ own_found s log reads =
     record {
       event = λ k d l.
           ap own (records.events k d l)
-          ∙ ap (λ (e : Event). Word (event_word (own_event log.form (openings_at s 25 (length log.urgent)) e))) (back_at log.form log.events k d good.events l)
-          ∙ ap (λ (os : List Opening). Word (event_word (own_event log.form os (get_or log.events k d)))) openings
-          ∙ ap (λ (e : Event). Word (event_word e)) (sym (own_at log k d l));
+          ∙ ap (λ (e : Event). Some (event_word (own_event log.form (openings_at s 25 (length log.urgent)) e))) (back_at log.form log.events k d good.events l)
+          ∙ ap (λ (os : List Opening). Some (event_word (own_event log.form os (get_or log.events k d)))) openings
+          ∙ ap (λ (e : Event). Some (event_word e)) (sym (own_at log k d l));
       past = λ k l. ap own (records.events_past k l);
     }

@@ -9,7 +9,7 @@ use lib.Dec.{ltb, leb}
 use lib.ListN.{length}
 use Rattle.log_format.specs.declared.Form.{Form}
 use Rattle.log_format.specs.declared.Form.TheVariants.{Flow, Own}
-use Rattle.log_format.specs.declared.Found.TheVariants.{Word, Nothing}
+use Rattle.std.specs.Prelude.{None, Some}
 use Rattle.log_format.specs.Format.{Opening}
 use Rattle.log_format.specs.Words.{event_word}
 use Rattle.log_format.specs.Faults.{byte_at, two_at}
@@ -49,10 +49,10 @@ module _ (urgent : List Opening) (word : ℕ) where
       ap (λ (n : ℕ). n + 65536 * deadline) (sym half))
 
 -- ---- an event that is found is all there
-pub all_there : (s : List ℕ) (start count k word : ℕ) → Word word ≡ event_in s start count k → start + 4 * k + 4 ≤ length s
+pub all_there : (s : List ℕ) (start count k word : ℕ) → Some word ≡ event_in s start count k → start + 4 * k + 4 ≤ length s
 all_there s start count k word = go (ltb k count) (leb (start + 4 * k + 4) (length s)) refl
   where
-    go : (a b : Bool) → leb (start + 4 * k + 4) (length s) ≡ b → Word word ≡ cond (a && b) (Word (event_word (event_at s (start + 4 * k)))) Nothing → start + 4 * k + 4 ≤ length s
+    go : (a b : Bool) → leb (start + 4 * k + 4) (length s) ≡ b → Some word ≡ cond (a && b) (Some (event_word (event_at s (start + 4 * k)))) None → start + 4 * k + 4 ≤ length s
     go a true l e = leb-true (start + 4 * k + 4) (length s) l
     go true false l e = absurd (let z : ◌≡◌ {A = ℕ} 0 1 = cc in omega arith)
     go false false l e = absurd (let z : ◌≡◌ {A = ℕ} 0 1 = cc in omega arith)

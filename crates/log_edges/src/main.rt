@@ -14,41 +14,50 @@ mod output;
 mod reading;
 mod writing;
 
-use input::{NONE, byte, filled, number};
+use input::{byte, fill, number};
 use log_format::Form;
 use reading::{comparing, finding, reading};
 use writing::writing;
 
-// The kinds of cases.
-const READ: usize = b'c' as usize;
+// What a case asks for.
+#[derive(Clone, Copy)]
+enum Case {
+    Read,
+    Pair,
+    Record,
+    Write(Form),
+}
 
-const PAIR: usize = b'p' as usize;
-
-const RECORD: usize = b'r' as usize;
-
-const WRITE: usize = b'w' as usize;
-
-const WRITE_OWN: usize = b'o' as usize;
+impl Case {
+    // The case that a byte tells, if it tells one.
+    fn told_by(byte: u8) -> Option<Case> {
+        match byte {
+            b'c' => Some(Case::Read),
+            b'p' => Some(Case::Pair),
+            b'r' => Some(Case::Record),
+            b'w' => Some(Case::Write(Form::Flow)),
+            b'o' => Some(Case::Write(Form::Own)),
+            _ => None,
+        }
+    }
+}
 
 fn main(rt: HostRuntime) {
     let mut bytes = [0u8; 70_000];
     cases(&rt, &mut bytes);
 }
 
-// Answers one case after the other, up to the end of the input. A proved loop has to end: it counts the cases down, from a number that no
-// run uses up.
+// Answers one case after the other, up to the end of the input. A proved loop has to end: it counts the cases, up to a number that no run
+// uses up.
 fn cases(rt: &HostRuntime, bytes: &mut [u8]) {
-    let mut left = u64::MAX;
-    while 0 < left {
-        let kind = byte(rt);
-        if kind == NONE {
+    for _ in 0..u64::MAX {
+        let Some(kind) = byte(rt) else {
             return;
-        }
-        if !answered(rt, kind, bytes) {
+        };
+        if answer(rt, kind, bytes).is_none() {
             tell(rt);
             return;
         }
-        left -= 1;
     }
 }
 
@@ -58,39 +67,24 @@ fn tell(rt: &HostRuntime) {
     streams::put(&mut error, b"log_edges: a case is not answered\n");
 }
 
-// Answers a case of this kind, with bytes lent for its log or its numbers; whether it could.
-fn answered(rt: &HostRuntime, kind: usize, bytes: &mut [u8]) -> bool {
-    let n = number(rt);
-    if kind == WRITE {
-        return writing(rt, Form::Flow, n, bytes);
+// Answers the case that a byte tells, with bytes lent for its log or its numbers; nothing where it could not.
+fn answer(rt: &HostRuntime, kind: u8, bytes: &mut [u8]) -> Option<()> {
+    let case = Case::told_by(kind)?;
+    let n = number(rt)?;
+    match case {
+        Case::Read => reading(rt, log(rt, n, bytes)?),
+        Case::Pair => {
+            let m = number(rt)?;
+            comparing(rt, log(rt, n, bytes)?, m)
+        }
+        Case::Record => finding(rt, log(rt, n, bytes)?),
+        Case::Write(form) => writing(rt, form, n, bytes),
     }
-    if kind == WRITE_OWN {
-        return writing(rt, Form::Own, n, bytes);
-    }
-    let m = other(rt, kind);
-    if bytes.len() < n {
-        return false;
-    }
-    if !filled(rt, &mut bytes[..n]) {
-        return false;
-    }
-    about(rt, kind, &bytes[..n], m)
 }
 
-// The length of the other log, where there are two.
-fn other(rt: &HostRuntime, kind: usize) -> usize {
-    if kind == PAIR {
-        return number(rt);
-    }
-    0
-}
-
-// Answers a case of this kind about a log, and about another of m bytes.
-fn about(rt: &HostRuntime, kind: usize, log: &[u8], m: usize) -> bool {
-    match kind {
-        READ => reading(rt, log),
-        PAIR => comparing(rt, log, m),
-        RECORD => finding(rt, log),
-        _ => false,
-    }
+// A log of n bytes, taken from the input into the bytes that are lent.
+fn log<'a>(rt: &HostRuntime, n: usize, bytes: &'a mut [u8]) -> Option<&'a [u8]> {
+    let log = bytes.get_mut(..n)?;
+    fill(rt, log)?;
+    Some(log)
 }

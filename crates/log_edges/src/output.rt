@@ -1,8 +1,8 @@
-// The answers, as lines and as bytes. Each function says whether it could write.
+// The answers, as lines and as bytes: each function answers nothing where it could not write.
 ghost use Rattle.std.specs.Prelude.{◌≤◌, length};
 
 // Writes a word and the first count of two numbers as a line.
-pub(crate) fn line(rt: &HostRuntime, word: &[u8], a: u64, b: u64, count: usize) -> bool
+pub(crate) fn line(rt: &HostRuntime, word: &[u8], a: u64, b: u64, count: usize) -> Option<()>
     requires { length word.now ≤ 8 }
 {
     let mut text = [0u8; 128];
@@ -11,12 +11,12 @@ pub(crate) fn line(rt: &HostRuntime, word: &[u8], a: u64, b: u64, count: usize) 
 }
 
 // Writes `no` and the first count of two numbers as a line.
-pub(crate) fn no(rt: &HostRuntime, number: u64, place: u64, count: usize) -> bool {
+pub(crate) fn no(rt: &HostRuntime, number: u64, place: u64, count: usize) -> Option<()> {
     line(rt, b"no", number, place, count)
 }
 
 // Writes `ok` and five numbers as a line.
-pub(crate) fn five(rt: &HostRuntime, a: u64, b: u64, c: u64, d: u64, e: u64) -> bool {
+pub(crate) fn five(rt: &HostRuntime, [a, b, c, d, e]: [u64; 5]) -> Option<()> {
     let mut text = [0u8; 128];
     let p = text::part(&mut text, 0, b"ok", &[a, b, c]);
     let n = text::line(&mut text, p, b"", &[d, e]);
@@ -24,17 +24,15 @@ pub(crate) fn five(rt: &HostRuntime, a: u64, b: u64, c: u64, d: u64, e: u64) -> 
 }
 
 // Writes how many bytes there are as a line, after a word, and then the bytes as they are.
-pub(crate) fn counted(rt: &HostRuntime, word: &[u8], bytes: &[u8]) -> bool
+pub(crate) fn counted(rt: &HostRuntime, word: &[u8], bytes: &[u8]) -> Option<()>
     requires { length word.now ≤ 8 }
 {
-    if !line(rt, word, bytes.len() as u64, 0, 1) {
-        return false;
-    }
+    line(rt, word, bytes.len() as u64, 0, 1)?;
     raw(rt, bytes)
 }
 
 // Writes bytes as they are.
-fn raw(rt: &HostRuntime, bytes: &[u8]) -> bool {
+fn raw(rt: &HostRuntime, bytes: &[u8]) -> Option<()> {
     let mut output = rt.stdout();
-    streams::put(&mut output, bytes)
+    streams::put(&mut output, bytes).then_some(())
 }

@@ -1,111 +1,103 @@
 // Logs that are read: one, two beside each other, and one of which a record is asked for.
-use crate::input::{NONE, byte, filled, number};
+use crate::input::{byte, fill, number};
 use crate::output::{counted, five, line, no};
-use log_format::{Contents, Fault, Found, Place, Verdict};
+use log_format::{Contents, Flaw};
 
-// The bodies, by their numbers in a case.
-const URGENT: usize = 0;
+// A body of a log, as a case names it.
+#[derive(Clone, Copy)]
+enum Body {
+    Urgent,
+    Fair,
+    Events,
+    OwnEvents,
+}
 
-const FAIR: usize = 1;
-
-const EVENTS: usize = 2;
-
-const OWN_EVENTS: usize = 3;
+impl Body {
+    // The body that a byte tells, if it tells one.
+    fn told_by(byte: u8) -> Option<Body> {
+        match byte {
+            0 => Some(Body::Urgent),
+            1 => Some(Body::Fair),
+            2 => Some(Body::Events),
+            3 => Some(Body::OwnEvents),
+            _ => None,
+        }
+    }
+}
 
 // What the reader says of a log.
-pub(crate) fn reading(rt: &HostRuntime, log: &[u8]) -> bool {
+pub(crate) fn reading(rt: &HostRuntime, log: &[u8]) -> Option<()> {
     match log_reading::read(log) {
-        Verdict::Good(c) => contents(rt, c, log.len()),
-        Verdict::Refused(fault, place) => refused(rt, fault, place),
+        Ok(c) => contents(rt, c, log.len()),
+        Err(flaw) => refused(rt, flaw),
     }
 }
 
 // What a log of so many bytes holds.
-fn contents(rt: &HostRuntime, c: Contents, n: usize) -> bool {
-    let form = c.form;
+fn contents(rt: &HostRuntime, c: Contents, n: usize) -> Option<()> {
     five(
         rt,
-        form.first_byte() as u64,
-        c.urgent as u64,
-        c.fair as u64,
-        c.events as u64,
-        n as u64,
+        [
+            u64::from(c.form.first_byte()),
+            c.urgent as u64,
+            c.fair as u64,
+            c.events as u64,
+            n as u64,
+        ],
     )
 }
 
 // That bytes are no log, why, and where.
-fn refused(rt: &HostRuntime, fault: Fault, place: usize) -> bool {
-    no(rt, fault.number(), place as u64, 2)
+fn refused(rt: &HostRuntime, flaw: Flaw) -> Option<()> {
+    no(rt, flaw.fault.number(), flaw.place as u64, 2)
 }
 
 // Where a log and the next one, of m bytes, differ, and the tail.
-pub(crate) fn comparing(rt: &HostRuntime, a: &[u8], m: usize) -> bool {
-    let mut b = [0u8; 70_000];
-    second(rt, a, &mut b, m)
-}
-
-// The same, with bytes lent for the next one.
-fn second(rt: &HostRuntime, a: &[u8], b: &mut [u8], m: usize) -> bool {
-    if b.len() < m {
-        return false;
-    }
-    if !filled(rt, &mut b[..m]) {
-        return false;
-    }
-    compared(rt, a, &b[..m])
+pub(crate) fn comparing(rt: &HostRuntime, a: &[u8], m: usize) -> Option<()> {
+    let mut bytes = [0u8; 70_000];
+    let b = bytes.get_mut(..m)?;
+    fill(rt, b)?;
+    compared(rt, a, b)
 }
 
 // The same, for two logs that are there.
-fn compared<'a>(rt: &HostRuntime, a: &'a [u8], b: &'a [u8]) -> bool {
-    if !difference(rt, log_pairs::first_difference(a, b)) {
-        return false;
-    }
+fn compared(rt: &HostRuntime, a: &[u8], b: &[u8]) -> Option<()> {
+    difference(rt, log_pairs::first_difference(a, b))?;
     counted(rt, b"tail", log_pairs::tail(a, b))
 }
 
 // A place where two logs differ, or that there is none.
-fn difference(rt: &HostRuntime, place: Place) -> bool {
+fn difference(rt: &HostRuntime, place: Option<usize>) -> Option<()> {
     match place {
-        Place::At(at) => line(rt, b"at", at as u64, 0, 1),
-        Place::Nowhere => line(rt, b"none", 0, 0, 0),
+        Some(place) => line(rt, b"at", place as u64, 0, 1),
+        None => line(rt, b"none", 0, 0, 0),
     }
 }
 
-// The record that is asked for after a log.
-pub(crate) fn finding(rt: &HostRuntime, log: &[u8]) -> bool {
-    let body = byte(rt);
-    let k = number(rt);
-    if OWN_EVENTS < body {
-        return false;
-    }
-    if k == NONE {
-        return false;
-    }
-    asked(rt, log, body, k)
-}
-
-// The record of a body and an index, if the bytes are a log.
-fn asked(rt: &HostRuntime, log: &[u8], body: usize, k: usize) -> bool {
+// The record that is asked for after a log, if the bytes are a log.
+pub(crate) fn finding(rt: &HostRuntime, log: &[u8]) -> Option<()> {
+    let body = Body::told_by(byte(rt)?)?;
+    let k = number(rt)?;
     match log_reading::read(log) {
-        Verdict::Good(c) => found(rt, record(log, c, body, k)),
-        Verdict::Refused(fault, place) => refused(rt, fault, place),
+        Ok(c) => found(rt, record(log, c, body, k)),
+        Err(flaw) => refused(rt, flaw),
     }
 }
 
 // The record of a body and an index, in a log that holds this.
-fn record(log: &[u8], c: Contents, body: usize, k: usize) -> Found {
+fn record(log: &[u8], c: Contents, body: Body, k: usize) -> Option<u32> {
     match body {
-        URGENT => log_records::urgent_opening(log, c, k),
-        FAIR => log_records::fair_opening(log, c, k),
-        EVENTS => log_records::event(log, c, k),
-        _ => log_cells::own_event(log, c, k),
+        Body::Urgent => log_records::urgent_opening(log, c, k),
+        Body::Fair => log_records::fair_opening(log, c, k),
+        Body::Events => log_records::event(log, c, k),
+        Body::OwnEvents => log_cells::own_event(log, c, k),
     }
 }
 
 // A record, or that there is none.
-fn found(rt: &HostRuntime, found: Found) -> bool {
+fn found(rt: &HostRuntime, found: Option<u32>) -> Option<()> {
     match found {
-        Found::Word(w) => line(rt, b"word", w as u64, 0, 1),
-        Found::Nothing => line(rt, b"nothing", 0, 0, 0),
+        Some(word) => line(rt, b"word", u64::from(word), 0, 1),
+        None => line(rt, b"nothing", 0, 0, 0),
     }
 }

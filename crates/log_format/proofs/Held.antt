@@ -4,9 +4,8 @@ use mathlib.Core.List.{List}
 use Prim.Native.Nat.{ℕ, ◌*◌, ◌/◌, ◌≤◌}
 use native.Mathlib.Omega.{arith}
 use lib.ListN.{length}
+use Rattle.std.specs.Prelude.{Ok}
 use Rattle.log_format.specs.declared.Contents.{Contents}
-use Rattle.log_format.specs.declared.Verdict.{Verdict}
-use Rattle.log_format.specs.declared.Verdict.TheVariants.{Good as whole, Refused}
 use Rattle.log_format.specs.Format.{GoodLog, most_bytes}
 use Rattle.log_format.specs.Faults.{form_at, urgent_length, fair_length, event_length, fair_start, event_start, log_end}
 use Rattle.log_format.specs.Reading.{Good, log_at, contents_of, read_of, verdict_of}
@@ -26,10 +25,6 @@ pub record Held (s : List ℕ) (c : Contents) : Type 0 where
   pub events_long : 4 * c.events ≡ event_length s
   pub all : log_end s ≡ length s
   pub most : log_end s ≤ most_bytes
-
-abbrev contents : Verdict → Contents → Contents
-contents (whole c) d = c
-contents (Refused fault place) d = d
 
 module _ (s : List ℕ) (c : Contents) where
   held_of : Sound s → log_end s ≡ length s → read_of s ≡ Good (log_at s) → c ≡ contents_of (log_at s) → Held s c
@@ -53,11 +48,11 @@ module _ (s : List ℕ) (c : Contents) where
       }
 
   -- bytes whose verdict is a log
-  pub held : whole c ≡ verdict_of (read_of s) → Held s c
+  pub held : Ok c ≡ verdict_of (read_of s) → Held s c
   held e =
-      read_cases s (λ r. read_of s ≡ r → whole c ≡ verdict_of r → Held s c)
-      (λ x f r v. absurd (let z : ◌≡◌ {A = ℕ} 0 1 = cc in omega arith))
-      (λ h l r v. absurd (let z : ◌≡◌ {A = ℕ} 0 1 = cc in omega arith))
-      (λ h l r v. held_of h l r (ap (λ (w : Verdict). contents w c) v))
+      read_cases s (λ r. read_of s ≡ r → Ok c ≡ verdict_of r → Held s c)
+      (λ x f r v. cc)
+      (λ h l r v. cc)
+      (λ h l r v. held_of h l r (let is : c ≡ contents_of (log_at s) = cc in is))
       refl
       e

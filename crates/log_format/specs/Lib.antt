@@ -4,6 +4,7 @@ pub mod Own
 pub mod Refusals
 pub mod Faults
 pub mod Reading
+pub mod Told
 pub mod Pairs
 pub mod Laws
 pub mod Worked

@@ -1,11 +1,10 @@
 -- What the reader gives for bytes: the log, or the first fault on the way through them.
-use Rattle.std.specs.Prelude.{Bool, true, false, cond, not, ◌||◌, List, [], ◌∷◌, ◌++◌, ℕ, zero, suc, ◌+◌, ◌/◌, ◌%◌, ltb, eqb, length, Option, None, Some}
+use Rattle.std.specs.Prelude.{Bool, true, false, cond, not, ◌||◌, List, [], ◌∷◌, ◌++◌, ℕ, zero, suc, ◌+◌, ◌/◌, ◌%◌, ltb, eqb, length, Option, None, Some, Result, Ok, Err}
 use Rattle.log_format.specs.declared.Fault.{Fault}
 use Rattle.log_format.specs.declared.Fault.TheVariants.{FirstByte, TableField, BadRecord, EndsEarly, ByteTooMany}
 use Rattle.log_format.specs.declared.Form.{Form}
 use Rattle.log_format.specs.declared.Contents.{Contents}
-use Rattle.log_format.specs.declared.Verdict.{Verdict}
-use Rattle.log_format.specs.declared.Verdict.TheVariants.{Good as whole, Refused}
+use Rattle.log_format.specs.declared.Flaw.{Flaw}
 use Rattle.log_format.specs.Format.{Opening, Event, Log, bad_opening, bad_event, most_deadline, most_weight, most_bytes}
 use Rattle.log_format.specs.Faults.{byte_at, two_at, four_at, form_at, urgent_length, fair_length, event_length, urgent_start, fair_start, event_start, log_end}
 
@@ -128,6 +127,6 @@ read_of s = after_table s (first_fault (length s) (table_parts s))
 abbrev pub contents_of : Log → Contents
 contents_of log = record { form = log.form; urgent = length log.urgent; fair = length log.fair; events = length log.events }
 
-abbrev pub verdict_of : Reading → Verdict
-verdict_of (Good log) = whole (contents_of log)
-verdict_of (Bad fault place) = Refused fault place
+abbrev pub verdict_of : Reading → Result Contents Flaw
+verdict_of (Good log) = Ok (contents_of log)
+verdict_of (Bad fault place) = Err (record { fault = fault; place = place })

@@ -7,7 +7,7 @@ pub fn two(a: u8, b: u8) -> u64
     ensures value { result ≡ two_of a b }
     ensures upper_bound { result < 65536 }
 {
-    wide(a) + 256 * wide(b)
+    u64::from(u16::from_le_bytes([a, b]))
 }
 
 // The number of four bytes, which is small as well.
@@ -15,12 +15,5 @@ pub fn four(a: u8, b: u8, c: u8, d: u8) -> u64
     ensures value { result ≡ four_of a b c d }
     ensures upper_bound { result < 4294967296 }
 {
-    two(a, b) + 65_536 * two(c, d)
-}
-
-// A byte as a number.
-pub(crate) fn wide(b: u8) -> u64
-    ensures { result ≡ b }
-{
-    b as u64
+    u64::from(u32::from_le_bytes([a, b, c, d]))
 }

@@ -6,32 +6,38 @@ mod records;
 
 ghost use Rattle.std.specs.Prelude.{◌≡◌};
 ghost use Rattle.log_format.specs.Format.{first_byte};
-ghost use Rattle.log_format.specs.Faults.{form_of};
-ghost use Rattle.log_format.specs.Reading.{is_first};
 ghost use Rattle.log_format.specs.Refusals.{fault_number};
+ghost use Rattle.log_format.specs.Told.{form_told};
 
 pub use bytes::{four, two};
-pub use records::{bad_event, bad_opening, no_event, no_opening};
+pub use records::{Kind, bad_event, bad_opening, no_event, no_opening};
 
-// How a log tells a cell's deadline: as that of its flow's opening, or as the cell's own.
-#[derive(Clone, Copy)]
+// How a log tells a cell's deadline: as that of its flow's opening, or as the cell's own. The number is a log's first byte.
+#[derive(Clone, Copy, Debug, PartialEq, Eq)]
 pub enum Form {
-    Flow,
-    Own,
+    Flow = 1,
+    Own = 2,
 }
 
-// Why bytes are no log.
-#[derive(Clone, Copy)]
+// Why bytes are no log, with the number by which the rules name it.
+#[derive(Clone, Copy, Debug, PartialEq, Eq)]
 pub enum Fault {
-    FirstByte,
-    TableField,
-    BadRecord,
-    EndsEarly,
-    ByteTooMany,
+    FirstByte = 20,
+    TableField = 21,
+    BadRecord = 22,
+    EndsEarly = 23,
+    ByteTooMany = 24,
+}
+
+// What is wrong with bytes that are no log, and the place where it is, counted from their start.
+#[derive(Clone, Copy, Debug, PartialEq, Eq)]
+pub struct Flaw {
+    pub fault: Fault,
+    pub place: usize,
 }
 
 // What a log holds: its form, and how many records each body has.
-#[derive(Clone, Copy)]
+#[derive(Clone, Copy, Debug, PartialEq, Eq)]
 pub struct Contents {
     pub form: Form,
     pub urgent: usize,
@@ -39,33 +45,11 @@ pub struct Contents {
     pub events: usize,
 }
 
-// What reading bytes gives: what the log holds, or what is wrong, and the place where it is.
-#[derive(Clone, Copy)]
-pub enum Verdict {
-    Good(Contents),
-    Refused(Fault, usize),
-}
-
-// What writing a log gives: the position of the first bad record, that the log is too long, or its length in bytes.
-#[derive(Clone, Copy)]
-pub enum Written {
+// Why a log is not written: the position of its first bad record, or that it is too long.
+#[derive(Clone, Copy, Debug, PartialEq, Eq)]
+pub enum Unwritten {
     BadRecord(usize),
     TooLong,
-    Length(usize),
-}
-
-// A record by its index, as a number, or that there is none.
-#[derive(Clone, Copy)]
-pub enum Found {
-    Word(u32),
-    Nothing,
-}
-
-// A place, counted from the log's start, or none.
-#[derive(Clone, Copy)]
-pub enum Place {
-    At(usize),
-    Nowhere,
 }
 
 impl Form {
@@ -73,31 +57,23 @@ impl Form {
     pub fn first_byte(self) -> u8
         ensures { result ≡ first_byte self }
     {
-        match self {
-            Form::Flow => 1,
-            Form::Own => 2,
-        }
+        self as u8
     }
+}
 
-    // Whether a byte is the first of any log.
-    pub fn is_first(byte: u8) -> bool
-        ensures { result ≡ is_first byte }
-    {
-        if byte == 1 {
-            return true;
-        }
-        byte == 2
-    }
+// The form that a first byte tells; any other byte is the fault of a log that starts with it.
+impl TryFrom<u8> for Form {
+    type Error = Fault;
 
-    // The form that a first byte tells.
+    ghost try_from_gives = { λ byte form. form ≡ form_told byte };
+
     #[tactic(auto, unfolding(crate::specs::Faults::form_of))]
-    pub fn told_by(byte: u8) -> Form
-        ensures { result ≡ form_of byte }
-    {
-        if byte == 2 {
-            return Form::Own;
+    fn try_from(byte: u8) -> Result<Form, Fault> {
+        match byte {
+            1 => Ok(Form::Flow),
+            2 => Ok(Form::Own),
+            _ => Err(Fault::FirstByte),
         }
-        Form::Flow
     }
 }
 
@@ -106,12 +82,6 @@ impl Fault {
     pub fn number(self) -> u64
         ensures { result ≡ fault_number self }
     {
-        match self {
-            Fault::FirstByte => 20,
-            Fault::TableField => 21,
-            Fault::BadRecord => 22,
-            Fault::EndsEarly => 23,
-            Fault::ByteTooMany => 24,
-        }
+        self as u64
     }
 }

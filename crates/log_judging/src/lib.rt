@@ -14,66 +14,57 @@ const MOST_DEADLINE: u64 = 4_096;
 // The greatest weight.
 const MOST_WEIGHT: u64 = 16;
 
-// The position of the first bad record, through urgent openings, fair openings and events; their number where none is bad.
-pub fn first_bad(form: Form, urgent: &[u32], fair: &[u32], events: &[u32]) -> usize
+// The position of the first bad record, through urgent openings, fair openings and events.
+pub fn first_bad(form: Form, urgent: &[u32], fair: &[u32], events: &[u32]) -> Option<usize>
     ensures { result ≡ first_bad (bad_records (lent_log form urgent.now fair.now events.now)) }
 {
-    let u = first_bad_opening(MOST_DEADLINE, urgent);
-    if u < urgent.len() {
-        return u;
+    if let Some(k) = first_bad_opening(MOST_DEADLINE, urgent) {
+        return Some(k);
     }
-    let f = first_bad_opening(MOST_WEIGHT, fair);
-    if f < fair.len() {
-        return u + f;
+    if let Some(k) = first_bad_opening(MOST_WEIGHT, fair) {
+        return Some(urgent.len() + k);
     }
-    u + f + first_bad_event(form, events)
+    let k = first_bad_event(form, events)?;
+    Some(urgent.len() + fair.len() + k)
 }
 
-// The position of the first bad opening of a body; their number where none is bad.
-fn first_bad_opening(most: u64, words: &[u32]) -> usize
+// The position of the first bad opening of a body.
+fn first_bad_opening(most: u64, words: &[u32]) -> Option<usize>
     ensures { result ≡ first_bad (bad_openings most 0 (map opening_of words.now)) }
 {
     let mut least = 0;
-    let mut i = 0;
-    while i < words.len() {
-        if no_opening(most, least, words[i]) {
-            return i;
+    for (i, word) in words.iter().enumerate() {
+        if no_opening(most, least, *word) {
+            return Some(i);
         }
-        least = (words[i] % 256) as u64 + 1;
-        i += 1;
+        least = u64::from(word % 256) + 1;
     }
-    i
+    None
 }
 
-// The position of the first bad event; their number where none is bad.
-fn first_bad_event(form: Form, words: &[u32]) -> usize
+// The position of the first bad event.
+fn first_bad_event(form: Form, words: &[u32]) -> Option<usize>
     ensures { result ≡ first_bad (bad_events form (map event_of words.now)) }
 {
-    let mut i = 0;
-    while i < words.len() {
-        if no_event(form, words[i]) {
-            return i;
+    for (i, word) in words.iter().enumerate() {
+        if no_event(form, *word) {
+            return Some(i);
         }
-        i += 1;
     }
-    i
+    None
 }
 
 // Whether a number is no opening that a body may hold, whose flows are not below the least and whose numbers are 1 to most.
-fn no_opening(most: u64, least: u64, w: u32) -> bool
-    ensures { result ≡ bad_opening most least (opening_of w).flow (opening_of w).number }
+fn no_opening(most: u64, least: u64, word: u32) -> bool
+    ensures { result ≡ bad_opening most least (opening_of word).flow (opening_of word).number }
 {
-    let flow = (w % 256) as u64;
-    let number = (w / 256) as u64;
-    log_format::bad_opening(most, least, flow, number)
+    log_format::bad_opening(most, least, u64::from(word % 256), u64::from(word / 256))
 }
 
 // Whether a number is no event that a log of this form may hold.
-fn no_event(form: Form, w: u32) -> bool
-    ensures { result ≡ bad_event form (event_of w).kind (event_of w).flow (event_of w).number }
+fn no_event(form: Form, word: u32) -> bool
+    ensures { result ≡ bad_event form (event_of word).kind (event_of word).flow (event_of word).number }
 {
-    let kind = (w % 256) as u64;
-    let flow = (w / 256 % 256) as u64;
-    let number = (w / 65_536) as u64;
-    log_format::bad_event(form, kind, flow, number)
+    let [kind, flow, low, high] = word.to_le_bytes();
+    log_format::no_event(form, kind, flow, low, high)
 }

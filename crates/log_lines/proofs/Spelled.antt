@@ -22,7 +22,7 @@ unfolding bytes_of
 answers_spelled =
     record {
       good = λ c length. refl;
-      refused = λ fault place length. refl;
+      refused = λ flaw length. refl;
       written = λ length. refl;
       bad_record = λ position. refl;
       too_long = refl;

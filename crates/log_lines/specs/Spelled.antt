@@ -1,13 +1,11 @@
 -- The lines of the log program as the rules spell them: each answer and each record of a log beside its words, letters and numbers.
-use Rattle.std.specs.Prelude.{Bool, true, false, [], ◌∷◌, ◌≡◌, ℕ, ◌≤◌, Some}
+use Rattle.std.specs.Prelude.{Bool, true, false, [], ◌∷◌, ◌≡◌, ℕ, ◌≤◌, None, Some, Ok, Err}
 use Rattle.text.specs.Spelled.{bytes_of, field, spelled}
 use Rattle.lines.specs.Grammar.{text_of}
 use Rattle.lines.specs.Reading.{read_call}
 use Rattle.log_format.specs.declared.Contents.{Contents}
-use Rattle.log_format.specs.declared.Fault.{Fault}
-use Rattle.log_format.specs.declared.Verdict.TheVariants.{Good, Refused}
-use Rattle.log_format.specs.declared.Written.TheVariants.{BadRecord, TooLong, Length}
-use Rattle.log_format.specs.declared.Place.TheVariants.{At, Nowhere}
+use Rattle.log_format.specs.declared.Flaw.{Flaw}
+use Rattle.log_format.specs.declared.Unwritten.TheVariants.{BadRecord, TooLong}
 use Rattle.log_format.specs.Format.{first_byte}
 use Rattle.log_format.specs.Refusals.{verdict_told, written_told}
 use Rattle.log_format.specs.Words.{opening_of, event_of}
@@ -18,20 +16,19 @@ pub record AnswersSpelled : Type 0 where
   -- a good log: its first byte, the openings of each lane, the events, and its length
   pub good :
       (c : Contents) (length : ℕ)
-      → verdict_line (Good c) length
+      → verdict_line (Ok c) length
       ≡ spelled (bytes_of "ok" ∷ field (first_byte c.form) ∷ field c.urgent ∷ field c.fair ∷ field c.events ∷ field length ∷ [])
   -- a refusal of the reader: the number that is told of it, and its place
   pub refused :
-      (fault : Fault) (place length : ℕ)
-      → verdict_line (Refused fault place) length ≡ spelled (bytes_of "no" ∷ field (verdict_told (Refused fault place)).number ∷ field place ∷ [])
+      (flaw : Flaw) (length : ℕ) → verdict_line (Err flaw) length ≡ spelled (bytes_of "no" ∷ field (verdict_told (Err flaw)).number ∷ field flaw.place ∷ [])
   -- a log written: its length
-  pub written : (length : ℕ) → written_line (Length length) ≡ spelled (bytes_of "ok" ∷ field length ∷ [])
+  pub written : (length : ℕ) → written_line (Ok length) ≡ spelled (bytes_of "ok" ∷ field length ∷ [])
   -- a refusal of the writer: the number that is told of it, and the bad record's position
-  pub bad_record : (position : ℕ) → written_line (BadRecord position) ≡ spelled (bytes_of "no" ∷ field (written_told (BadRecord position)).number ∷ field position ∷ [])
-  pub too_long : written_line TooLong ≡ spelled (bytes_of "no" ∷ field (written_told TooLong).number ∷ [])
+  pub bad_record : (position : ℕ) → written_line (Err (BadRecord position)) ≡ spelled (bytes_of "no" ∷ field (written_told (Err (BadRecord position))).number ∷ field position ∷ [])
+  pub too_long : written_line (Err TooLong) ≡ spelled (bytes_of "no" ∷ field (written_told (Err TooLong)).number ∷ [])
   -- the first place where two logs differ, or that there is none
-  pub differ : (place : ℕ) → difference_line (At place) ≡ spelled (bytes_of "at" ∷ field place ∷ [])
-  pub nowhere : difference_line Nowhere ≡ spelled (bytes_of "none" ∷ [])
+  pub differ : (place : ℕ) → difference_line (Some place) ≡ spelled (bytes_of "at" ∷ field place ∷ [])
+  pub nowhere : difference_line None ≡ spelled (bytes_of "none" ∷ [])
 
 -- Each record beside its line, which is the line of a session; an event goes by its kind, and a kind that no log holds as an end.
 pub record RecordsSpelled : Type 0 where

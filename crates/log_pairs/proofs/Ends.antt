@@ -3,6 +3,7 @@ use mathlib.Core.Path.{◌≡◌, refl, sym, ◌∙◌, ap}
 use mathlib.Core.Bool.{Bool, true, false, cond, ◌&&◌, true≢false, false≢true}
 use mathlib.Core.List.{List, [], ◌∷◌}
 use Rattle.std.proofs.Common.{Option, None, Some}
+use Rattle.std.specs.Prelude.{is_none}
 use Prim.Native.Nat.{ℕ, ◌+◌, ◌-◌, ◌≤◌, ◌<◌}
 use native.Mathlib.Omega.{arith}
 use lib.Dec.{eqb}
@@ -14,11 +15,7 @@ use Rattle.log_format.specs.Reading.{Reading, Good, Bad, contents_of, read_of, v
 use Rattle.log_format.specs.Pairs.{same_openings, comparable_by, comparable, rest_of, differ_from, tail_of, difference_of}
 use Rattle.log_format.proofs.Tests.{and_true}
 use Rattle.log_format.proofs.Held.{held}
-use Rattle.log_pairs.specs.declared.Common.{Common}
-use Rattle.log_pairs.specs.declared.Common.TheVariants.{Start, Not}
-use Rattle.log_format.specs.declared.Place.{Place}
-use Rattle.log_format.specs.declared.Place.TheVariants.{At, Nowhere}
-use Rattle.log_pairs.specs.Common.{place_of, common_of, is_none, begins}
+use Rattle.log_pairs.specs.Common.{common_of, begins}
 
 -- ---- two bodies
 rest_differs : (at : ℕ) (xs ys : List ℕ) → is_none (differ_from at xs ys) ≡ false → rest_of xs ys ≡ []
@@ -133,48 +130,33 @@ module _ (a b : List ℕ) where
       (sym (rest_first s (drop s a) (drop s b) h.1 (omega (arith, length-drop s a, length-drop s b)) ∙ drop_past s b a d.second))
 
   -- ---- what is found from the common start on
-  module _ (common : Common) (is : common ≡ common_of a b) where
-    not_common : common ≡ Not → comparable a b ≡ false
+  module _ (common : Option ℕ) (is : common ≡ common_of a b) where
+    not_common : common ≡ None → comparable a b ≡ false
     not_common e = go (comparable a b) refl
       where
         go : (c : Bool) → comparable a b ≡ c → c ≡ false
-        go true f = absurd (let q : cond true (Start (event_start a)) Not ≡ Not = ap (λ (t : Bool). cond t (Start (event_start a)) Not) (sym f) ∙ sym is ∙ e in let z : ◌≡◌ {A = ℕ} 0 1 = cc in omega arith)
+        go true f = let q : cond true (Some (event_start a)) None ≡ None = ap (λ (t : Bool). cond t (Some (event_start a)) None) (sym f) ∙ sym is ∙ e in cc
         go false f = refl
 
-    pub no_difference : common ≡ Not → Nowhere ≡ place_of (difference_of a b)
+    pub no_difference : common ≡ None → None ≡ difference_of a b
     no_difference e = rw (not_common e)
 
-    pub begins_not : common ≡ Not → false ≡ begins a b
+    pub begins_not : common ≡ None → false ≡ begins a b
     begins_not e = rw (not_common e)
 
-    module _ (start : ℕ) (e : common ≡ Start start) where
+    module _ (start : ℕ) (e : common ≡ Some start) where
       starts_at : (comparable a b ≡ true) × (start ≡ event_start a)
       starts_at = go (comparable a b) refl
         where
           go : (c : Bool) → comparable a b ≡ c → (comparable a b ≡ true) × (start ≡ event_start a)
-          go true f = (f, let q : Start (event_start a) ≡ Start start = ap (λ (t : Bool). cond t (Start (event_start a)) Not) (sym f) ∙ sym is ∙ e in let p : event_start a ≡ start = cc in sym p)
-          go false f = absurd (let q : Not ≡ Start start = ap (λ (t : Bool). cond t (Start (event_start a)) Not) (sym f) ∙ sym is ∙ e in let z : ◌≡◌ {A = ℕ} 0 1 = cc in omega arith)
+          go true f = (f, let q : Some (event_start a) ≡ Some start = ap (λ (t : Bool). cond t (Some (event_start a)) None) (sym f) ∙ sym is ∙ e in let p : event_start a ≡ start = cc in sym p)
+          go false f = absurd (let q : None ≡ Some start = ap (λ (t : Bool). cond t (Some (event_start a)) None) (sym f) ∙ sym is ∙ e in cc)
 
       pub within : (start ≤ length a) × (start ≤ length b)
       within = let d = one_start a b starts_at.0 in (omega (arith, starts_at.1, d.first), omega (arith, starts_at.1, d.second))
 
-      module _ (place : Place) (found : place ≡ place_of (differ_from start (drop start a) (drop start b))) where
-        pub difference : place ≡ place_of (difference_of a b)
-        difference = found ∙ rw (starts_at.0, starts_at.1, (one_start a b starts_at.0).same)
+      pub difference : differ_from start (drop start a) (drop start b) ≡ difference_of a b
+      difference = rw (starts_at.0, starts_at.1, (one_start a b starts_at.0).same)
 
-        begins_is : begins a b ≡ is_none (differ_from start (drop start a) (drop start b))
-        begins_is = rw (starts_at.0, starts_at.1)
-
-        pub differs_there : (at : ℕ) → place ≡ At at → false ≡ begins a b
-        differs_there at told = sym (begins_is ∙ go (differ_from start (drop start a) (drop start b)) (sym found ∙ told))
-          where
-            go : (x : Option ℕ) → place_of x ≡ At at → is_none x ≡ false
-            go (Some p) e = refl
-            go None e = absurd (let z : ◌≡◌ {A = ℕ} 0 1 = cc in omega arith)
-
-        pub differs_nowhere : place ≡ Nowhere → true ≡ begins a b
-        differs_nowhere told = sym (begins_is ∙ go (differ_from start (drop start a) (drop start b)) (sym found ∙ told))
-          where
-            go : (x : Option ℕ) → place_of x ≡ Nowhere → is_none x ≡ true
-            go (Some p) e = absurd (let z : ◌≡◌ {A = ℕ} 0 1 = cc in omega arith)
-            go None e = refl
+      pub begins_is : is_none (differ_from start (drop start a) (drop start b)) ≡ begins a b
+      begins_is = rw (starts_at.0, starts_at.1)

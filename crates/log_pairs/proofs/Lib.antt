@@ -1,3 +1,3 @@
 pub mod Differ
-pub mod Starts
 pub mod Ends
+pub mod Starts

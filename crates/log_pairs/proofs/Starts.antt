@@ -1,6 +1,6 @@
 -- Two logs that start alike.
 use mathlib.Core.Path.{◌≡◌, refl, sym, ◌∙◌, ap}
-use mathlib.Core.Bool.{Bool, true, false, ◌&&◌}
+use mathlib.Core.Bool.{Bool, true, false, cond, ◌&&◌, not, true≢false}
 use mathlib.Core.List.{List, [], ◌∷◌}
 use Prim.Native.Nat.{ℕ, ◌+◌, ◌*◌, ◌/◌, ◌≤◌}
 use native.Mathlib.Omega.{arith}
@@ -8,16 +8,19 @@ use borrow.Author.Tests.{ne_eqb, eq-eqb}
 use lib.Dec.{eqb}
 use lib.ListN.{length}
 use Rattle.log_format.specs.declared.Contents.{Contents}
-use Rattle.log_format.specs.declared.Fault.{Fault}
-use Rattle.log_format.specs.declared.Verdict.{Verdict}
-use Rattle.log_format.specs.declared.Verdict.TheVariants.{Good as Whole, Refused}
+use denote.Enum.Bare.{sameb}
+use Rattle.log_format.specs.contracts.Form.{the_type}
+use Rattle.log_format.specs.declared.Flaw.{Flaw}
+use Rattle.log_format.specs.declared.Form.{Form}
+use Rattle.log_format.specs.declared.Form.TheVariants.{Flow, Own}
+use Rattle.std.specs.Result.{result_ok}
+use Rattle.std.proofs.Common.{None, Some, Result, Ok, Err}
 use Rattle.log_format.specs.Format.{Opening, first_byte, most_bytes}
 use Rattle.log_format.specs.Faults.{form_at, urgent_length, fair_length, fair_start, event_start}
 use Rattle.log_format.specs.Reading.{Reading, Good, Bad, openings_at, log_at, read_of, verdict_of}
-use Rattle.log_format.specs.Pairs.{same_openings, same_start, comparable}
+use Rattle.log_format.specs.Pairs.{same_openings, same_start, comparable, comparable_by}
 use Rattle.log_format.proofs.Back.{openings_many}
 use Rattle.log_format.proofs.Held.{Held, held}
-use Rattle.log_pairs.specs.declared.Common.TheVariants.{Start, Not}
 use Rattle.log_pairs.specs.Common.{common_of}
 use Rattle.log_pairs.proofs.Differ.{same_left}
 
@@ -34,6 +37,26 @@ not_as_long (x ∷ xs) (y ∷ ys) n = no (eqb x.flow y.flow) (eqb x.number y.num
     no true false e = refl
     no false q e = refl
 
+-- a first byte tells one form
+one_form : (f g : Form) → first_byte f ≡ first_byte g → f ≡ g
+one_form Flow Flow e = refl
+one_form Flow Own e = absurd (omega arith)
+one_form Own Flow e = absurd (omega arith)
+one_form Own Own e = refl
+
+-- the test whether two forms differ
+pub forms_same : (f g : Form) → false ≡ not (sameb the_type f g) → f ≡ g
+forms_same Flow Flow e = refl
+forms_same Flow Own e = absurd (true≢false (sym e))
+forms_same Own Flow e = absurd (true≢false (sym e))
+forms_same Own Own e = refl
+
+pub forms_differ : (f g : Form) → true ≡ not (sameb the_type f g) → f ≡ g → ⊥
+forms_differ Flow Flow e d = true≢false e
+forms_differ Flow Own e d = cc
+forms_differ Own Flow e d = cc
+forms_differ Own Own e d = true≢false e
+
 -- ---- three tests
 second_fails : (p q r : Bool) → q ≡ false → false ≡ (p && q && r)
 second_fails true true r e = absurd (let z : ◌≡◌ {A = ℕ} 0 1 = cc in omega arith)
@@ -46,7 +69,7 @@ third_fails true false r e = refl
 third_fails false q r e = refl
 
 -- ---- logs with these contents
-module _ (a b : List ℕ) (x y : Contents) (g : Whole x ≡ verdict_of (read_of a)) (h : Whole y ≡ verdict_of (read_of b)) where
+module _ (a b : List ℕ) (x y : Contents) (g : Ok x ≡ verdict_of (read_of a)) (h : Ok y ≡ verdict_of (read_of b)) where
   abbrev H : Held a x
   H = held a x g
 
@@ -74,75 +97,81 @@ module _ (a b : List ℕ) (x y : Contents) (g : Whole x ≡ verdict_of (read_of 
   pub small : 25 + 3 * x.urgent + 3 * x.fair ≤ most_bytes
   small = omega (arith, H.urgent_long, H.fair_long, H.most)
 
-  module _ (u w : ℕ) (is_u : u ≡ first_byte x.form) (is-w : w ≡ first_byte y.form) where
-    pub other_first : (u ≡ w → ⊥) → false ≡ same_start (log_at a) (log_at b)
-    other_first n =
-        let t : P ≡ false = ne_eqb (first_byte (form_at a)) (first_byte (form_at b)) (λ e. n (is_u ∙ ap first_byte H.form ∙ e ∙ sym (is-w ∙ ap first_byte K.form))) in
-        rw t
+  -- logs of other forms, or with other counts
+  pub other_form : (x.form ≡ y.form → ⊥) → false ≡ same_start (log_at a) (log_at b)
+  other_form n =
+      let t : P ≡ false = ne_eqb (first_byte (form_at a)) (first_byte (form_at b)) (λ e. n (one_form x.form y.form (ap first_byte H.form ∙ e ∙ sym (ap first_byte K.form)))) in
+      rw t
 
-    first_same : u ≡ w → P ≡ true
-    first_same e = eq-eqb (first_byte (form_at a)) (first_byte (form_at b)) (sym (is_u ∙ ap first_byte H.form) ∙ e ∙ is-w ∙ ap first_byte K.form)
+  pub other_urgent_count : (x.urgent ≡ y.urgent → ⊥) → false ≡ same_start (log_at a) (log_at b)
+  other_urgent_count n =
+      second_fails P Q R (not_as_long (openings_at a 25 (urgent_length a / 3)) (openings_at b 25 (urgent_length b / 3))
+      (λ e. n (omega (arith, H.urgent, K.urgent, openings_many a 25 (urgent_length a / 3), openings_many b 25 (urgent_length b / 3), e))))
 
-    pub other_urgent_count : (x.urgent ≡ y.urgent → ⊥) → false ≡ same_start (log_at a) (log_at b)
-    other_urgent_count n =
-        second_fails P Q R (not_as_long (openings_at a 25 (urgent_length a / 3)) (openings_at b 25 (urgent_length b / 3))
-        (λ e. n (omega (arith, H.urgent, K.urgent, openings_many a 25 (urgent_length a / 3), openings_many b 25 (urgent_length b / 3), e))))
+  pub other_fair_count : (x.fair ≡ y.fair → ⊥) → false ≡ same_start (log_at a) (log_at b)
+  other_fair_count n =
+      third_fails P Q R (not_as_long (openings_at a (fair_start a) (fair_length a / 3)) (openings_at b (fair_start b) (fair_length b / 3))
+      (λ e. n (omega (arith, H.fair, K.fair, openings_many a (fair_start a) (fair_length a / 3), openings_many b (fair_start b) (fair_length b / 3), e))))
 
-    pub other_fair_count : (x.fair ≡ y.fair → ⊥) → false ≡ same_start (log_at a) (log_at b)
-    other_fair_count n =
-        third_fails P Q R (not_as_long (openings_at a (fair_start a) (fair_length a / 3)) (openings_at b (fair_start b) (fair_length b / 3))
-        (λ e. n (omega (arith, H.fair, K.fair, openings_many a (fair_start a) (fair_length a / 3), openings_many b (fair_start b) (fair_length b / 3), e))))
+  -- and logs of one form, with the same counts
+  module _ (d : x.form ≡ y.form) (e : x.urgent ≡ y.urgent) (f : x.fair ≡ y.fair) where
+    abbrev T : Bool
+    T = same_left a b 25 x.urgent
 
-    module _ (e : x.urgent ≡ y.urgent) (t : Bool) (is-t : t ≡ same_left a b 25 x.urgent) where
-      urgent_is : t ≡ Q
-      urgent_is =
-          is-t ∙ ap (λ (k : ℕ). same_openings (openings_at a 25 k) (openings_at b 25 x.urgent)) H.urgent
-          ∙ ap (λ (k : ℕ). same_openings (openings_at a 25 (urgent_length a / 3)) (openings_at b 25 k)) (e ∙ K.urgent)
+    abbrev S : Bool
+    S = same_left a b (25 + 3 * x.urgent) x.fair
 
-      pub other_urgent : t ≡ false → false ≡ same_start (log_at a) (log_at b)
-      other_urgent f = second_fails P Q R (sym urgent_is ∙ f)
+    first_same : P ≡ true
+    first_same = eq-eqb (first_byte (form_at a)) (first_byte (form_at b)) (ap first_byte (sym H.form ∙ d ∙ K.form))
 
-      module _ (f : x.fair ≡ y.fair) (s : Bool) (is-s : s ≡ same_left a b (25 + 3 * x.urgent) x.fair) where
-        fair_is : s ≡ R
-        fair_is =
-            let p : 25 + 3 * x.urgent ≡ fair_start a = omega (arith, H.urgent_long) in
-            let q : 25 + 3 * x.urgent ≡ fair_start b = omega (arith, e, K.urgent_long) in
-            is-s
-            ∙ ap (λ (k : ℕ). same_openings (openings_at a (25 + 3 * x.urgent) k) (openings_at b (25 + 3 * x.urgent) x.fair)) H.fair
-            ∙ ap (λ (k : ℕ). same_openings (openings_at a (25 + 3 * x.urgent) (fair_length a / 3)) (openings_at b (25 + 3 * x.urgent) k)) (f ∙ K.fair)
-            ∙ ap (λ (k : ℕ). same_openings (openings_at a k (fair_length a / 3)) (openings_at b (25 + 3 * x.urgent) (fair_length b / 3))) p
-            ∙ ap (λ (k : ℕ). same_openings (openings_at a (fair_start a) (fair_length a / 3)) (openings_at b k (fair_length b / 3))) q
+    urgent_is : T ≡ Q
+    urgent_is =
+        ap (λ (k : ℕ). same_openings (openings_at a 25 k) (openings_at b 25 x.urgent)) H.urgent
+        ∙ ap (λ (k : ℕ). same_openings (openings_at a 25 (urgent_length a / 3)) (openings_at b 25 k)) (e ∙ K.urgent)
 
-        pub all_same : u ≡ w → t ≡ true → s ≡ same_start (log_at a) (log_at b)
-        all_same one two = rw (first_same one, sym urgent_is ∙ two) fair_is
+    fair_is : S ≡ R
+    fair_is =
+        let p : 25 + 3 * x.urgent ≡ fair_start a = omega (arith, H.urgent_long) in
+        let q : 25 + 3 * x.urgent ≡ fair_start b = omega (arith, e, K.urgent_long) in
+        ap (λ (k : ℕ). same_openings (openings_at a (25 + 3 * x.urgent) k) (openings_at b (25 + 3 * x.urgent) x.fair)) H.fair
+        ∙ ap (λ (k : ℕ). same_openings (openings_at a (25 + 3 * x.urgent) (fair_length a / 3)) (openings_at b (25 + 3 * x.urgent) k)) (f ∙ K.fair)
+        ∙ ap (λ (k : ℕ). same_openings (openings_at a k (fair_length a / 3)) (openings_at b (25 + 3 * x.urgent) (fair_length b / 3))) p
+        ∙ ap (λ (k : ℕ). same_openings (openings_at a (fair_start a) (fair_length a / 3)) (openings_at b k (fair_length b / 3))) q
+
+    pub both_bodies : (T && S) ≡ same_start (log_at a) (log_at b)
+    both_bodies = rw (first_same, urgent_is, fair_is)
 
   -- ---- two logs that can be compared
   both_read : comparable a b ≡ same_start (log_at a) (log_at b)
   both_read = rw (H.reads, K.reads)
 
-  pub common_start : (t : Bool) → t ≡ same_start (log_at a) (log_at b) → t ≡ true → Start (25 + 3 * x.urgent + 3 * x.fair) ≡ common_of a b
-  common_start t is alike =
-      let c : comparable a b ≡ true = both_read ∙ sym is ∙ alike in
+  pub common_start : same_start (log_at a) (log_at b) ≡ true → Some (25 + 3 * x.urgent + 3 * x.fair) ≡ common_of a b
+  common_start alike =
+      let c : comparable a b ≡ true = both_read ∙ alike in
       let s : 25 + 3 * x.urgent + 3 * x.fair ≡ event_start a = omega (arith, H.urgent_long, H.fair_long) in
-      rw c (ap Start s)
+      rw c (ap Some s)
 
-  pub common_not : (t : Bool) → t ≡ same_start (log_at a) (log_at b) → t ≡ false → Not ≡ common_of a b
-  common_not t is other = let c : comparable a b ≡ false = both_read ∙ sym is ∙ other in rw c
+  pub common_not : same_start (log_at a) (log_at b) ≡ false → None ≡ common_of a b
+  common_not other = let c : comparable a b ≡ false = both_read ∙ other in rw c
 
--- bytes that are a log, and bytes that are none
-pub reads_as : (s : List ℕ) (v : Verdict) (x : Contents) → v ≡ verdict_of (read_of s) → v ≡ Whole x → Whole x ≡ verdict_of (read_of s)
-reads_as s v x is told = sym told ∙ is
+-- ---- bytes that are no log
+module _ (a b : List ℕ) (r : Result Contents Flaw) where
+  pub first_refused : r ≡ verdict_of (read_of a) → result_ok r ≡ None → None ≡ common_of a b
+  first_refused is e = go (read_of a) is
+    where
+      go : (q : Reading) → r ≡ verdict_of q → None ≡ cond (comparable_by q (read_of b)) (Some (event_start a)) None
+      go (Good log) is = let told : result_ok r ≡ Some _ = ap result_ok is in cc
+      go (Bad fault place) is = refl
 
-pub reads_not : (s : List ℕ) (v : Verdict) (fault : Fault) (place : ℕ) → v ≡ verdict_of (read_of s) → v ≡ Refused fault place → Refused fault place ≡ verdict_of (read_of s)
-reads_not s v fault place is told = sym told ∙ is
+  pub second_refused : r ≡ verdict_of (read_of b) → result_ok r ≡ None → None ≡ common_of a b
+  second_refused is e = go (read_of a) (read_of b) is
+    where
+      go : (p q : Reading) → r ≡ verdict_of q → None ≡ cond (comparable_by p q) (Some (event_start a)) None
+      go (Good log) (Good more) is = let told : result_ok r ≡ Some _ = ap result_ok is in cc
+      go (Good log) (Bad fault place) is = refl
+      go (Bad fault place) q is = refl
 
-refused_is : (r : Reading) (fault : Fault) (place : ℕ) → Refused fault place ≡ verdict_of r → r ≡ Bad fault place
-refused_is (Good log) fault place e = absurd (let z : ◌≡◌ {A = ℕ} 0 1 = cc in omega arith)
-refused_is (Bad f p) fault place e = let q : fault ≡ f = cc in let r : place ≡ p = cc in rw (q, r)
-
-module _ (a b : List ℕ) (fault : Fault) (place : ℕ) where
-  pub first_refused : Refused fault place ≡ verdict_of (read_of a) → Not ≡ common_of a b
-  first_refused e = rw (refused_is (read_of a) fault place e)
-
-  pub second_refused : (x : Contents) → Whole x ≡ verdict_of (read_of a) → Refused fault place ≡ verdict_of (read_of b) → Not ≡ common_of a b
-  second_refused x g e = rw ((held a x g).reads, refused_is (read_of b) fault place e)
+-- ---- bytes that are a log
+pub reads_as : (s : List ℕ) (r : Result Contents Flaw) (x : Contents) → r ≡ verdict_of (read_of s) → Some x ≡ result_ok r → Ok x ≡ verdict_of (read_of s)
+reads_as s (Ok y) x is e = let p : x ≡ y = cc in ap Ok p ∙ is
+reads_as s (Err flaw) x is e = cc

@@ -1,22 +1,11 @@
--- What two logs have in common, and where they differ, as the functions answer it.
-use Rattle.std.specs.Prelude.{Bool, true, false, cond, List, ℕ, drop, Option, None, Some}
+-- What two logs have in common, as the functions answer it.
+use Rattle.std.specs.Prelude.{Bool, false, cond, List, ℕ, drop, Option, None, Some, is_none}
 use Rattle.log_format.specs.Faults.{event_start}
 use Rattle.log_format.specs.Pairs.{comparable, differ_from}
-use Rattle.log_format.specs.declared.Place.{Place}
-use Rattle.log_format.specs.declared.Place.TheVariants.{At, Nowhere}
-use Rattle.log_pairs.specs.declared.Common.{Common}
-use Rattle.log_pairs.specs.declared.Common.TheVariants.{Start, Not}
 
-abbrev pub place_of : Option ℕ → Place
-place_of (Some place) = At place
-place_of None = Nowhere
-
-abbrev pub common_of : List ℕ → List ℕ → Common
-common_of a b = cond (comparable a b) (Start (event_start a)) Not
-
-abbrev pub is_none : Option ℕ → Bool
-is_none (Some place) = false
-is_none None = true
+-- where the events of two logs start, if the logs have the same first byte and openings
+abbrev pub common_of : List ℕ → List ℕ → Option ℕ
+common_of a b = cond (comparable a b) (Some (event_start a)) None
 
 -- both start alike, and their events differ nowhere within the shorter
 abbrev pub begins : List ℕ → List ℕ → Bool

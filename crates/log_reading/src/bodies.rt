@@ -1,69 +1,68 @@
 // The three bodies, record by record.
 ghost use Rattle.std.specs.Prelude.{◌≡◌, ◌++◌, ◌+◌, ◌*◌, ◌/◌, ◌≤◌, length};
 ghost use Rattle.log_format.specs.Format.{most_deadline, most_weight, most_bytes};
-ghost use Rattle.log_format.specs.Reading.{first_fault, opening_parts, event_parts};
-ghost use Rattle.log_table.specs.Scanning.{scan_of};
+ghost use Rattle.log_format.specs.Reading.{opening_parts, event_parts};
+ghost use Rattle.log_table.specs.Scanning.{found_in};
 
-use log_format::{Fault, Form};
-use log_table::Scan;
+use log_format::{Fault, Flaw, Form};
+use log_table::Layout;
 
-// What is found in bodies of so many bytes.
-pub(crate) fn bodies(log: &[u8], form: Form, urgent: usize, fair: usize, events: usize) -> Scan
-    requires { 25 + urgent + fair + events ≤ most_bytes }
-    ensures { result ≡ scan_of (first_fault (length log.now) (opening_parts most_deadline 0 log.now 25 (urgent / 3) ++ (opening_parts most_weight 0 log.now (25 + urgent) (fair / 3) ++ event_parts form log.now (25 + urgent + fair) (events / 4)))) }
+// What is found in the bodies, as the table states them.
+pub(crate) fn bodies(log: &[u8], layout: Layout) -> Result<(), Flaw>
+    requires { 25 + layout.urgent + layout.fair + layout.events ≤ most_bytes }
+    ensures { result ≡ found_in (length log.now) (opening_parts most_deadline 0 log.now 25 (layout.urgent / 3) ++ (opening_parts most_weight 0 log.now (25 + layout.urgent) (layout.fair / 3) ++ event_parts layout.form log.now (25 + layout.urgent + layout.fair) (layout.events / 4))) }
 {
-    let a = scan_openings(log, 25, urgent / 3, 4096);
-    let b = scan_openings(log, 25 + urgent, fair / 3, 16);
-    let c = scan_events(log, 25 + urgent + fair, events / 4, form);
-    a.and_then(b.and_then(c))
+    let fair = 25 + layout.urgent;
+    let events = fair + layout.fair;
+    scan_openings(log, 25, layout.urgent / 3, 4096)?;
+    scan_openings(log, fair, layout.fair / 3, 16)?;
+    scan_events(log, events, layout.events / 4, layout.form)
 }
 
 // What is found in so many openings from a place on, with numbers up to most.
-fn scan_openings(log: &[u8], start: usize, count: usize, most: u64) -> Scan
+fn scan_openings(log: &[u8], start: usize, count: usize, most: u64) -> Result<(), Flaw>
     requires { start + 3 * count ≤ most_bytes }
-    ensures { result ≡ scan_of (first_fault (length log.now) (opening_parts most 0 log.now start count)) }
+    ensures { result ≡ found_in (length log.now) (opening_parts most 0 log.now start count) }
 {
-    let mut k = 0;
-    let mut at = start;
-    let mut least: u64 = 0;
-    while k < count {
-        if log.len() < at + 3 {
-            return Scan::Refused(Fault::EndsEarly, log.len());
+    let mut least = 0;
+    for k in 0..count {
+        let place = start + 3 * k;
+        let Some([flow, low, high]) = log.get(place..place + 3) else {
+            return Err(Flaw {
+                fault: Fault::EndsEarly,
+                place: log.len(),
+            });
+        };
+        if log_format::no_opening(most, least, *flow, *low, *high) {
+            return Err(Flaw {
+                fault: Fault::BadRecord,
+                place,
+            });
         }
-        let flow = log[at];
-        if log_format::no_opening(most, least, flow, log[at + 1], log[at + 1 + 1]) {
-            return Scan::Refused(Fault::BadRecord, at);
-        }
-        least = above(flow);
-        at += 3;
-        k += 1;
+        least = u64::from(*flow) + 1;
     }
-    Scan::Clean
-}
-
-// The least flow that may come after an opening of this one.
-fn above(flow: u8) -> u64
-    ensures { result ≡ flow + 1 }
-{
-    flow as u64 + 1
+    Ok(())
 }
 
 // What is found in so many events from a place on, in a log of this form.
-fn scan_events(log: &[u8], start: usize, count: usize, form: Form) -> Scan
+fn scan_events(log: &[u8], start: usize, count: usize, form: Form) -> Result<(), Flaw>
     requires { start + 4 * count ≤ most_bytes }
-    ensures { result ≡ scan_of (first_fault (length log.now) (event_parts form log.now start count)) }
+    ensures { result ≡ found_in (length log.now) (event_parts form log.now start count) }
 {
-    let mut k = 0;
-    let mut at = start;
-    while k < count {
-        if log.len() < at + 4 {
-            return Scan::Refused(Fault::EndsEarly, log.len());
+    for k in 0..count {
+        let place = start + 4 * k;
+        let Some([kind, flow, low, high]) = log.get(place..place + 4) else {
+            return Err(Flaw {
+                fault: Fault::EndsEarly,
+                place: log.len(),
+            });
+        };
+        if log_format::no_event(form, *kind, *flow, *low, *high) {
+            return Err(Flaw {
+                fault: Fault::BadRecord,
+                place,
+            });
         }
-        if log_format::no_event(form, log[at], log[at + 1], log[at + 2], log[at + 2 + 1]) {
-            return Scan::Refused(Fault::BadRecord, at);
-        }
-        at += 4;
-        k += 1;
     }
-    Scan::Clean
+    Ok(())
 }

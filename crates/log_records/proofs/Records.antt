@@ -5,7 +5,7 @@ use Prim.Native.Nat.{ℕ, ◌+◌, ◌*◌, ◌/◌, ◌≤◌, ◌<◌}
 use native.Mathlib.Omega.{arith}
 use lib.ListN.{length, get_or}
 use Rattle.log_format.specs.declared.Contents.{Contents}
-use Rattle.log_format.specs.declared.Found.TheVariants.{Word}
+use Rattle.std.specs.Prelude.{Some}
 use Rattle.log_format.specs.Format.{Opening, Event, Log}
 use Rattle.log_format.specs.Faults.{urgent_length, fair_length, event_length, fair_start, event_start}
 use Rattle.log_format.specs.Words.{opening_word, event_word}
@@ -18,15 +18,15 @@ use Rattle.log_records.proofs.Found.{opening_past, opening_there, event_past, ev
 
 -- a body within the bytes, by index
 module _ (s : List ℕ) (start count k : ℕ) where
-  opening_is : (d : Opening) → k < count → start + 3 * count ≤ length s → opening_in s start count k ≡ Word (opening_word (get_or (openings_at s start count) k d))
+  opening_is : (d : Opening) → k < count → start + 3 * count ≤ length s → opening_in s start count k ≡ Some (opening_word (get_or (openings_at s start count) k d))
   opening_is d l m =
       opening_there s start count k l (omega arith)
-      ∙ ap (λ (o : Opening). Word (opening_word o)) (sym ((by_index s start count k).opening d l))
+      ∙ ap (λ (o : Opening). Some (opening_word o)) (sym ((by_index s start count k).opening d l))
 
-  event_is : (d : Event) → k < count → start + 4 * count ≤ length s → event_in s start count k ≡ Word (event_word (get_or (events_at s start count) k d))
+  event_is : (d : Event) → k < count → start + 4 * count ≤ length s → event_in s start count k ≡ Some (event_word (get_or (events_at s start count) k d))
   event_is d l m =
       event_there s start count k l (omega arith)
-      ∙ ap (λ (e : Event). Word (event_word e)) (sym ((by_index s start count k).event d l))
+      ∙ ap (λ (e : Event). Some (event_word e)) (sym ((by_index s start count k).event d l))
 
 module _ (s : List ℕ) (reads : read_of s ≡ Good (log_at s)) where
   abbrev c : Contents
@@ -42,18 +42,18 @@ module _ (s : List ℕ) (reads : read_of s ≡ Good (log_at s)) where
   event_start_lem : 25 + 3 * c.urgent + 3 * c.fair ≡ event_start s
   event_start_lem = omega (arith, H.urgent_long, H.fair_long)
 
-  urgent : (k : ℕ) (d : Opening) → k < c.urgent → urgent_found s c k ≡ Word (opening_word (get_or (log_at s).urgent k d))
+  urgent : (k : ℕ) (d : Opening) → k < c.urgent → urgent_found s c k ≡ Some (opening_word (get_or (log_at s).urgent k d))
   urgent k d l =
       ap (λ (n : ℕ). opening_in s 25 n k) H.urgent
       ∙ opening_is s 25 (urgent_length s / 3) k d (omega (arith, l, H.urgent)) (omega (arith, H.urgent, H.urgent_long, H.all))
 
-  fair : (k : ℕ) (d : Opening) → k < c.fair → fair_found s c k ≡ Word (opening_word (get_or (log_at s).fair k d))
+  fair : (k : ℕ) (d : Opening) → k < c.fair → fair_found s c k ≡ Some (opening_word (get_or (log_at s).fair k d))
   fair k d l =
       ap (λ (x : ℕ). opening_in s x c.fair k) fair_start_lem
       ∙ ap (λ (n : ℕ). opening_in s (fair_start s) n k) H.fair
       ∙ opening_is s (fair_start s) (fair_length s / 3) k d (omega (arith, l, H.fair)) (omega (arith, H.fair, H.fair_long, H.all))
 
-  events : (k : ℕ) (d : Event) → k < c.events → event_found s c k ≡ Word (event_word (get_or (log_at s).events k d))
+  events : (k : ℕ) (d : Event) → k < c.events → event_found s c k ≡ Some (event_word (get_or (log_at s).events k d))
   events k d l =
       ap (λ (x : ℕ). event_in s x c.events k) event_start_lem
       ∙ ap (λ (n : ℕ). event_in s (event_start s) n k) H.events

@@ -1,52 +1,37 @@
 // Bodies by where they start and how many records they have: numbers of which nothing is known.
-ghost use Rattle.std.specs.Prelude.{◌≡◌, ◌+◌, ◌*◌, min};
-ghost use Rattle.log_records.specs.Found.{opening_in, event_in};
+ghost use Rattle.std.specs.Prelude.{◌≡◌, ◌+◌, ◌*◌, ◌^◌, ◌<◌};
+ghost use Rattle.std.specs.Option.{SomeIff, option_copied};
+ghost use Rattle.log_records.specs.Found.{record_in, opening_in, event_in};
 
-use log_format::Found;
-
-// The place after so many openings from a place on, or the end of the bytes where that is beyond it.
-pub(crate) fn after_openings(end: usize, start: usize, count: usize) -> usize
-    ensures { result ≡ min end (start + 3 * count) }
+// The place after so many openings from a place on, unless it is beyond all numbers.
+pub(crate) fn after_openings(start: usize, count: usize) -> Option<usize>
+    ensures { SomeIff result (start + 3 * count < 2 ^ 64) (start + 3 * count) }
 {
-    if end < start {
-        return end;
-    }
-    if (end - start) / 3 < count {
-        return end;
-    }
-    start + 3 * count
+    count.checked_mul(3)?.checked_add(start)
 }
 
 // The opening of an index in a body that has so many from a place on.
-pub(crate) fn opening_in(log: &[u8], start: usize, count: usize, k: usize) -> Found
+pub(crate) fn opening_in(log: &[u8], start: usize, count: usize, k: usize) -> Option<u32>
     ensures { result ≡ opening_in log.now start count k }
 {
-    if count <= k {
-        return Found::Nothing;
-    }
-    if log.len() < start {
-        return Found::Nothing;
-    }
-    if (log.len() - start) / 3 <= k {
-        return Found::Nothing;
-    }
-    let at = start + 3 * k;
-    Found::Word(log_format::four(log[at], log[at + 1], log[at + 1 + 1], 0) as u32)
+    let [flow, low, high] = record_in::<3>(log, start, count, k)?;
+    Some(u32::from_le_bytes([*flow, *low, *high, 0]))
 }
 
 // The event of an index in a body that has so many from a place on.
-pub(crate) fn event_in(log: &[u8], start: usize, count: usize, k: usize) -> Found
+pub(crate) fn event_in(log: &[u8], start: usize, count: usize, k: usize) -> Option<u32>
     ensures { result ≡ event_in log.now start count k }
 {
+    record_in::<4>(log, start, count, k).map(|bytes| u32::from_le_bytes(*bytes))
+}
+
+// The bytes of the record of an index in a body that has so many from a place on, if they are all there.
+fn record_in<const N: usize>(log: &[u8], start: usize, count: usize, k: usize) -> Option<&[u8; N]>
+    ensures { option_copied result ≡ record_in N log.now start count k }
+{
     if count <= k {
-        return Found::Nothing;
+        return None;
     }
-    if log.len() < start {
-        return Found::Nothing;
-    }
-    if (log.len() - start) / 4 <= k {
-        return Found::Nothing;
-    }
-    let at = start + 4 * k;
-    Found::Word(log_format::four(log[at], log[at + 1], log[at + 2], log[at + 2 + 1]) as u32)
+    let at = N.checked_mul(k)?.checked_add(start)?;
+    log.get(at..)?.first_chunk::<N>()
 }

@@ -6,10 +6,7 @@ ghost use Rattle.log_format.specs.Faults.{byte_at, four_at};
 pub fn byte(log: &[u8], at: usize) -> u8
     ensures { result ≡ byte_at log.now at }
 {
-    if at < log.len() {
-        return log[at];
-    }
-    0
+    log.get(at).copied().unwrap_or(0)
 }
 
 // The number in a field of the table; that it is small follows, and is said for those who call.
@@ -18,9 +15,10 @@ pub(crate) fn number(log: &[u8], at: usize) -> usize
     ensures value { result ≡ four_at log.now at }
     ensures upper_bound { result < 4294967296 }
 {
-    let a = byte(log, at);
-    let b = byte(log, at + 1);
-    let c = byte(log, at + 2);
-    let d = byte(log, at + 3);
-    log_format::four(a, b, c, d) as usize
+    log_format::four(
+        byte(log, at),
+        byte(log, at + 1),
+        byte(log, at + 2),
+        byte(log, at + 3),
+    ) as usize
 }

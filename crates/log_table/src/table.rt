@@ -1,99 +1,90 @@
 // The first byte and the contents table.
-ghost use Rattle.std.specs.Prelude.{◌≡◌, ◌≤◌, length};
-ghost use Rattle.log_format.specs.Reading.{first_fault, first_part, field, table_parts, bad_opening_length, bad_event_length};
-ghost use Rattle.log_table.specs.Scanning.{scan_of, found_in, opening_entry, event_entry};
+ghost use Rattle.std.specs.Prelude.{◌≡◌, [], ◌∷◌, ◌+◌, ◌≤◌, length, IfOk};
+ghost use Rattle.log_format.specs.Format.{most_bytes};
+ghost use Rattle.log_format.specs.Faults.{form_at};
+ghost use Rattle.log_format.specs.Reading.{first_fault, first_part, field, bad_opening_length, bad_event_length};
+ghost use Rattle.log_table.specs.Scanning.{unless, found_in, layout_told, entry};
 
-use crate::fields::{byte, number};
-use crate::scan::Scan;
-use log_format::{Fault, Form};
+use crate::Layout;
+use crate::fields::number;
+use log_format::{Fault, Flaw, Form};
 
 // The most bytes that a log may have.
 const MOST_BYTES: usize = 65_536;
 
-// What is found in the first byte and the table.
-pub fn scan_start(log: &[u8]) -> Scan
-    ensures { result ≡ scan_of (first_fault (length log.now) (table_parts log.now)) }
+// What the table states, or the first thing that is wrong in the first byte and the table; of a right table a log is not too long.
+pub fn read_table(log: &[u8]) -> Result<Layout, Flaw>
+    ensures value { result ≡ layout_told log.now }
+    ensures upper_bound { IfOk result (λ layout. 25 + layout.urgent + layout.fair + layout.events ≤ most_bytes) }
 {
-    let fair = 25 + number(log, 5);
-    let events = fair + number(log, 13);
-    let end = events + number(log, 21);
-    let first = first(log);
-    let urgent_entry = opening_entry(log, 1, 25);
-    let fair_entry = opening_entry(log, 9, fair);
-    let event_entry = event_entry(log, events, end);
-    first.and_then(urgent_entry.and_then(fair_entry.and_then(event_entry)))
+    let form = first(log)?;
+    let urgent = number(log, 5);
+    let fair = number(log, 13);
+    let events = number(log, 21);
+    let end = 25 + urgent + fair + events;
+    entry(log, 1, 25, bad_opening_length(urgent))?;
+    entry(log, 9, 25 + urgent, bad_opening_length(fair))?;
+    entry(log, 17, 25 + urgent + fair, bad_event_length(events, end))?;
+    Ok(Layout {
+        form,
+        urgent,
+        fair,
+        events,
+    })
 }
 
-// What is found in the first byte.
+// The form that the first byte tells, or what is wrong with it.
 #[tactic(auto, unfolding(log_format::specs::Reading::first_fault))]
-fn first(log: &[u8]) -> Scan
-    ensures { result ≡ found_in (length log.now) (first_part log.now) }
+fn first(log: &[u8]) -> Result<Form, Flaw>
+    ensures { result ≡ unless (first_fault (length log.now) (first_part log.now ∷ [])) (form_at log.now) }
 {
-    if log.len() < 1 {
-        return Scan::Refused(Fault::EndsEarly, log.len());
-    }
-    if Form::is_first(byte(log, 0)) {
-        return Scan::Clean;
-    }
-    Scan::Refused(Fault::FirstByte, 0)
+    let byte = log.first().ok_or(Flaw {
+        fault: Fault::EndsEarly,
+        place: 0,
+    })?;
+    Form::try_from(*byte).map_err(|fault| Flaw { fault, place: 0 })
+}
+
+// What is found in the entry at a place, where this is the right offset, and the length is bad or not.
+fn entry(log: &[u8], at: usize, right: usize, bad_length: bool) -> Result<(), Flaw>
+    requires { at ≤ 17 }
+    ensures { result ≡ found_in (length log.now) (entry log.now at right bad_length) }
+{
+    field(log.len(), at, number(log, at) != right)?;
+    field(log.len(), at + 4, bad_length)
 }
 
 // What is found in a field of the table, where n bytes are there.
 #[tactic(auto, unfolding(log_format::specs::Reading::first_fault))]
-fn field(n: usize, at: usize, bad: bool) -> Scan
+fn field(n: usize, at: usize, bad: bool) -> Result<(), Flaw>
     requires { at ≤ 21 }
-    ensures { result ≡ found_in n (field at bad) }
+    ensures { result ≡ found_in n (field at bad ∷ []) }
 {
     if n < at + 4 {
-        return Scan::Refused(Fault::EndsEarly, n);
+        return Err(Flaw {
+            fault: Fault::EndsEarly,
+            place: n,
+        });
     }
     if bad {
-        return Scan::Refused(Fault::TableField, at);
+        return Err(Flaw {
+            fault: Fault::TableField,
+            place: at,
+        });
     }
-    Scan::Clean
-}
-
-// What is found in the entry of a body of openings, which stands at a place, where this is the right offset.
-fn opening_entry(log: &[u8], at: usize, right: usize) -> Scan
-    requires { at ≤ 9 }
-    ensures { result ≡ scan_of (first_fault (length log.now) (opening_entry log.now at right)) }
-{
-    let n = log.len();
-    let bad_offset = number(log, at) != right;
-    let bad_length = bad_opening_length(number(log, at + 4));
-    let offset = field(n, at, bad_offset);
-    let length = field(n, at + 4, bad_length);
-    offset.and_then(length)
-}
-
-// What is found in the entry of the events, where this is the right offset, in a log that ends at end.
-fn event_entry(log: &[u8], right: usize, end: usize) -> Scan
-    ensures { result ≡ scan_of (first_fault (length log.now) (event_entry log.now right end)) }
-{
-    let n = log.len();
-    let bad_offset = number(log, 17) != right;
-    let bad_length = bad_event_length(number(log, 21), end);
-    let offset = field(n, 17, bad_offset);
-    let length = field(n, 21, bad_length);
-    offset.and_then(length)
+    Ok(())
 }
 
 // Whether a body of openings cannot have so many bytes.
 fn bad_opening_length(n: usize) -> bool
     ensures { result ≡ bad_opening_length n }
 {
-    if n % 3 != 0 {
-        return true;
-    }
-    48 < n
+    n % 3 != 0 || 48 < n
 }
 
 // Whether the body of events cannot have so many bytes in a log that ends at end.
 fn bad_event_length(n: usize, end: usize) -> bool
     ensures { result ≡ bad_event_length n end }
 {
-    if n % 4 != 0 {
-        return true;
-    }
-    MOST_BYTES < end
+    n % 4 != 0 || MOST_BYTES < end
 }

@@ -6,11 +6,14 @@ use Prim.Native.Nat.{ℕ, zero, suc, ◌+◌, ◌*◌, ◌-◌, ◌/◌, ◌%◌
 use native.Mathlib.Numerals.{add-one}
 use native.Mathlib.Omega.{arith}
 use lib.ListN.{length, take, drop, get_or, set, length-append, length-map, drop_of_length-le}
-use lib.Seq.{paste-zero, length-take-le, take_at, drop_at, drop-drop, drop-cons, sets-eq}
+use lib.Seq.{paste-zero, take_all, length-take-le, take_at, drop_at, drop-drop, drop-cons, sets-eq}
 use Rattle.log_format.specs.declared.Form.{Form}
 use Rattle.log_format.specs.Format.{first_byte, four_bytes, table_bytes, opening_bytes, event_bytes, bytes_of}
 use Rattle.log_format.specs.Words.{opening_of, event_of, lent_log}
 use Rattle.log_format.proofs.There.{openings_long, events_long}
+use Rattle.std.specs.Int.{w32, to_le_bytes}
+use Rattle.std.proofs.lemmas.Slice.{put_mid-paste}
+use borrow.Rule.Slice.PartMut.{put_mid}
 use Rattle.log_writing.specs.Placing.{low_bytes, word_bytes, put_at}
 
 -- ---- a piece, and what comes after it
@@ -39,28 +42,25 @@ unfolding low_bytes
 low_size zero n = refl
 low_size (suc k) n = ap suc (low_size k (n / 256))
 
-pub low_starts : (room : List ℕ) (at k n : ℕ) → put_at (at + 0) (low_bytes (k - 0) n) room ≡ put_at at (low_bytes k n) room
-low_starts room at k n =
-    let p : at + 0 ≡ at = omega arith in
-    let q : k - 0 ≡ k = omega arith in
-    rw (p, q)
-
-pub low_goes : (room all : List ℕ) (at i k n : ℕ) → i < k → at + i < length room
-    → put_at (at + i) (low_bytes (k - i) n) room ≡ all → put_at (at + (i + 1)) (low_bytes (k - (i + 1)) (n / 256)) (set room (at + i) (n % 256)) ≡ all
+low_is : (k n : ℕ) → k ≤ 4 → take k (to_le_bytes w32 n) ≡ low_bytes k n
 unfolding low_bytes
-low_goes room all at i k n h l e =
-    let q : k - i ≡ suc (k - (i + 1)) = omega arith in
-    let bytes : List ℕ = low_bytes (k - (i + 1)) (n / 256) in
-    ap (put_at (at + (i + 1)) bytes) (sets-eq (n % 256 ∷ []) room (at + i) (omega arith))
-    ∙ put_both room (at + i) (n % 256 ∷ []) (at + (i + 1)) bytes (omega arith) (omega arith)
-    ∙ ap (λ (j : ℕ). put_at (at + i) (low_bytes j n) room) (sym q)
-    ∙ e
+low_is zero n l = refl
+low_is (suc zero) n l = refl
+low_is (suc (suc zero)) n l = refl
+low_is (suc (suc (suc zero))) n l = let c : n / 65536 ≡ n / 256 / 256 = omega arith in ap (λ (x : ℕ). n % 256 ∷ n / 256 % 256 ∷ x % 256 ∷ []) c
+low_is (suc (suc (suc (suc zero)))) n l =
+    let c : n / 65536 ≡ n / 256 / 256 = omega arith in
+    let d : n / 16777216 ≡ n / 256 / 256 / 256 = omega arith in
+    ap (λ (x : ℕ). n % 256 ∷ n / 256 % 256 ∷ x % 256 ∷ n / 16777216 % 256 ∷ []) c
+    ∙ ap (λ (x : ℕ). n % 256 ∷ n / 256 % 256 ∷ n / 256 / 256 % 256 ∷ x % 256 ∷ []) d
+low_is (suc (suc (suc (suc (suc k))))) n l = absurd (omega arith)
 
-pub low_ends : (room all : List ℕ) (at i k n : ℕ) → k ≤ i → put_at (at + i) (low_bytes (k - i) n) room ≡ all → room ≡ all
-unfolding low_bytes
-low_ends room all at i k n h e =
-    let q : k - i ≡ 0 = omega arith in
-    put_nothing room (at + i) ∙ ap (λ (j : ℕ). put_at (at + i) (low_bytes j n) room) (sym q) ∙ e
+pub put_low : (room put : List ℕ) (at k n : ℕ) → k ≤ 4 → put ≡ take k (to_le_bytes w32 n)
+    → put_mid at (at + k - at) room put ≡ put_at at (low_bytes k n) room
+put_low room put at k n l e =
+    let low = low_bytes k n in
+    put_mid-paste at (at + k - at) room put low (length low) (e ∙ low_is k n l) (omega (arith, low_size k n)) refl
+    ∙ ap (λ (x : List ℕ). take at room ++ x ++ drop (at + length low) room) (take_all (length low) low (omega arith))
 
 -- ---- numbers one after the other
 words_next : (k : ℕ) (ws : List ℕ) (i : ℕ) → i < length ws → word_bytes k (drop i ws) ≡ low_bytes k (get_or ws i 0) ++ word_bytes k (drop (i + 1) ws)

@@ -1,19 +1,18 @@
 -- What the writer answers, by the lengths that are lent.
 use mathlib.Core.Path.{◌≡◌, sym, ◌∙◌, ap}
 use mathlib.Core.List.{List, ◌++◌, map}
-use Prim.Native.Nat.{ℕ, ◌+◌, ◌*◌, ◌≤◌, ◌<◌}
+use Prim.Native.Nat.{ℕ, ◌+◌, ◌*◌, ◌≤◌}
 use native.Mathlib.Omega.{arith}
-use borrow.Author.Tests.{lt-ltb}
-use lib.ListN.{length, drop, length-append, length-map}
+use lib.ListN.{length, drop, length-map}
 use Rattle.log_format.specs.declared.Form.{Form}
-use Rattle.log_format.specs.declared.Written.TheVariants.{BadRecord, TooLong, Length}
+use Rattle.std.proofs.Common.{Option, None, Some, Ok, Err}
+use Rattle.log_format.specs.declared.Unwritten.TheVariants.{BadRecord, TooLong}
 use Rattle.log_format.specs.Format.{Log, GoodLog, most_deadline, most_weight, most_bytes, bytes_of, size_of}
 use Rattle.log_format.specs.Words.{opening_of, event_of, lent_log}
 use Rattle.log_format.proofs.There.{few, size_of_lem}
-use Rattle.log_judging.specs.Judging.{bad_openings, bad_events, bad_records, first_bad}
+use Rattle.log_judging.specs.Judging.{bad_records, first_bad}
 use Rattle.log_judging.proofs.Judging.{judged}
-use Rattle.log_judging.proofs.Judged.{openings_many, events_many}
-use Rattle.log_writing.specs.Writing.{written_of}
+use Rattle.log_writing.specs.Writing.{written_by, written_of}
 use Rattle.log_writing.specs.Placing.{put_at}
 use Rattle.log_writing.proofs.Writing.{writes}
 
@@ -21,18 +20,8 @@ module _ (form : Form) (us fs es : List ℕ) where
   abbrev log : Log
   log = lent_log form us fs es
 
-  abbrev count : ℕ
-  count = length us + length fs + length es
-
   abbrev size : ℕ
   size = 25 + 3 * length us + 3 * length fs + 4 * length es
-
-  count_is : length (bad_records log) ≡ count
-  count_is =
-      let u : List _ = bad_openings most_deadline 0 (map opening_of us) in
-      let f : List _ = bad_openings most_weight 0 (map opening_of fs) in
-      let e : List _ = bad_events form (map event_of es) in
-      omega (arith, length-append u (f ++ e), length-append f e, openings_many most_deadline us, openings_many most_weight fs, events_many form es)
 
   size_is : size_of log ≡ size
   size_is = omega (arith, length-map us opening_of, length-map fs opening_of, length-map es event_of)
@@ -43,25 +32,23 @@ module _ (form : Form) (us fs es : List ℕ) where
       let n : 0 + length (bytes_of log) ≡ size = omega (arith, size_of_lem log, size_is) in
       e ∙ ap (λ (k : ℕ). bytes_of log ++ drop k was) n
 
-  module _ (bad : ℕ) (p : bad ≡ first_bad (bad_records log)) where
-    pub answers_bad : (room : ℕ) → bad < count → BadRecord bad ≡ written_of log room
-    unfolding written_of
-    answers_bad room l = rw (← p, lt-ltb bad (length (bad_records log)) (omega (arith, count_is)))
+  pub answers_bad : (room bad : ℕ) → Some bad ≡ first_bad (bad_records log) → Err (BadRecord bad) ≡ written_of log room
+  unfolding written_of
+  answers_bad room bad p = ap (λ (o : Option ℕ). written_by o log room) p
 
-    module _ (l : count ≤ bad) where
-      good : GoodLog log
-      good = (judged log).good (omega (arith, count_is))
+  module _ (p : None ≡ first_bad (bad_records log)) where
+    good : GoodLog log
+    good = (judged log).good (sym p)
 
-      -- rising flows are few: so the log's length is a number that fits
-      pub few_urgent : length us ≤ 16
-      few_urgent = omega (arith, few most_deadline 0 (map opening_of us) good.urgent (omega arith), length-map us opening_of)
+    -- rising flows are few: so the log's length is a number that fits
+    pub few_urgent : length us ≤ 16
+    few_urgent = omega (arith, few most_deadline 0 (map opening_of us) good.urgent (omega arith), length-map us opening_of)
 
-      pub few_fair : length fs ≤ 16
-      few_fair = omega (arith, few most_weight 0 (map opening_of fs) good.fair (omega arith), length-map fs opening_of)
+    pub few_fair : length fs ≤ 16
+    few_fair = omega (arith, few most_weight 0 (map opening_of fs) good.fair (omega arith), length-map fs opening_of)
 
-      pub answers_long : (room : ℕ) → (size ≤ most_bytes → size ≤ room → ⊥) → TooLong ≡ written_of log room
-      answers_long room h = sym ((writes log room).is_long good (λ a b. h (omega (arith, size_is)) (omega (arith, size_is))))
+    pub answers_long : (room : ℕ) → (size ≤ most_bytes → size ≤ room → ⊥) → Err TooLong ≡ written_of log room
+    answers_long room h = sym ((writes log room).is_long good (λ a b. h (omega (arith, size_is)) (omega (arith, size_is))))
 
-      pub answers_length : (room : ℕ) → size ≤ most_bytes → size ≤ room → Length size ≡ written_of log room
-      answers_length room a b =
-          ap Length (sym size_is) ∙ sym ((writes log room).is_length good (omega (arith, size_is)) (omega (arith, size_is)))
+    pub answers_length : (room : ℕ) → size ≤ most_bytes → size ≤ room → Ok size ≡ written_of log room
+    answers_length room a b = ap Ok (sym size_is) ∙ sym ((writes log room).is_length good (omega (arith, size_is)) (omega (arith, size_is)))

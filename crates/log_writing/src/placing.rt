@@ -24,28 +24,20 @@ pub(crate) fn put_start(room: &mut [u8], form: Form, u: usize, f: usize, e: usiz
 
 // Puts numbers one after the other from a place on, so many bytes of each.
 pub(crate) fn put_words(room: &mut [u8], at: usize, words: &[u32], k: usize)
-    requires { at + length (word_bytes k words.now) ≤ length room.old }
+    requires { (at + length (word_bytes k words.now) ≤ length room.old) × (k ≤ 4) }
     ensures { room.new ≡ put_at at (word_bytes k words.now) room.old }
 {
-    let mut p = at;
-    let mut i = 0;
-    while i < words.len() {
-        put_number(room, p, words[i], k);
-        p += k;
-        i += 1;
+    let mut place = at;
+    for word in words {
+        put_number(room, place, *word, k);
+        place += k;
     }
 }
 
 // Puts the lowest bytes of a number at a place, so many of them.
 fn put_number(room: &mut [u8], at: usize, n: u32, k: usize)
-    requires { at + k ≤ length room.old }
+    requires { (at + k ≤ length room.old) × (k ≤ 4) }
     ensures { room.new ≡ put_at at (low_bytes k n) room.old }
 {
-    let mut rest = n;
-    let mut i = 0;
-    while i < k {
-        room[at + i] = (rest % 256) as u8;
-        rest /= 256;
-        i += 1;
-    }
+    room[at..at + k].copy_from_slice(&n.to_le_bytes()[..k]);
 }

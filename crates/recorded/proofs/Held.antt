@@ -7,7 +7,8 @@ use borrow.Author.Tests.{le-ltb}
 use lib.ListN.{length, take, replicate, length-append}
 use lib.Seq.{length-take-le}
 use Rattle.log_format.specs.declared.Form.TheVariants.{Own}
-use Rattle.log_format.specs.declared.Written.{Written}
+use Rattle.std.specs.Prelude.{Result}
+use Rattle.log_format.specs.declared.Unwritten.{Unwritten}
 use Rattle.log_format.specs.Format.{Log}
 use Rattle.log_format.specs.Words.{opening_word, lent_log}
 use Rattle.log_writing.specs.Writing.{written_of, room_after}
@@ -33,8 +34,8 @@ module _ (r : Recorder) (events room : List ℕ) {urgent fair : Openings} (u : u
   lent_is : lent urgent fair ≡ held_log r events
   lent_is = λ i. lent (u i) (f i)
 
-  pub answers : (w : Written) → r.events ≤ length events → w ≡ written_of (lent urgent fair) (length room) → w ≡ wrote_of r events (length room)
+  pub answers : (w : Result ℕ Unwritten) → r.events ≤ length events → w ≡ written_of (lent urgent fair) (length room) → w ≡ wrote_of r events (length room)
   answers w l e = rw (le-ltb (length events) r.events l) (e ∙ ap (λ (log : Log). written_of log (length room)) lent_is)
 
-  pub leaves : (w : Written) (is : List ℕ) → is ≡ room_after w (lent urgent fair) room → is ≡ room_after w (held_log r events) room
+  pub leaves : (w : Result ℕ Unwritten) (is : List ℕ) → is ≡ room_after w (lent urgent fair) room → is ≡ room_after w (held_log r events) room
   leaves w is e = e ∙ ap (λ (log : Log). room_after w log room) lent_is

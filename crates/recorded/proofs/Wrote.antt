@@ -10,7 +10,8 @@ use native.Mathlib.Omega.{arith}
 use borrow.Author.Tests.{lt-ltb, le-ltb}
 use lib.ListN.{length, length-set}
 use Rattle.station.specs.declared.Call.{Call}
-use Rattle.log_format.specs.declared.Written.TheVariants.{TooLong}
+use Rattle.std.specs.Prelude.{Err}
+use Rattle.log_format.specs.declared.Unwritten.TheVariants.{TooLong}
 use Rattle.log_format.specs.Words.{event_word}
 use Rattle.log_writing.specs.Writing.{written_of, room_after}
 use Rattle.log_writing.proofs.Writing.{writes}
@@ -50,11 +51,11 @@ module _ (calls : List Call) (events room : List ℕ) (m : length events < most_
   long = room_long fresh_recorder calls events
 
   -- more events than words: 26, whatever is held
-  over : length events < (recorded calls).events → answer_after calls events (length room) ≡ TooLong
+  over : length events < (recorded calls).events → answer_after calls events (length room) ≡ Err TooLong
   over h = rw (lt-ltb (length after) (recorded calls).events (omega (arith, long)))
 
   -- and with 16,377 words the log is then above the most bytes
-  too_long : 16377 ≤ length events → length events < (recorded calls).events → written_of (log_of calls) (length room) ≡ TooLong
+  too_long : 16377 ≤ length events → length events < (recorded calls).events → written_of (log_of calls) (length room) ≡ Err TooLong
   too_long l h = (writes (log_of calls) (length room)).is_long (is_good calls) (λ a b. omega (arith, (records calls).too_long events l h))
 
   -- the events fit: what is held is the log

@@ -20,7 +20,7 @@ fn main(rt: HostRuntime) {
     let mut input = [0u8; 131_200];
     let n = streams::fill(&mut stdin, &mut input);
     let line = line_end(&input[..n]);
-    let start = past(line, n);
+    let start = (line + 1).min(n);
     match log_commands::parse(&input[..line]) {
         Command::Check => check(&rt, &input[start..n]),
         Command::Show => show(&rt, &input[start..n]),
@@ -35,22 +35,8 @@ fn main(rt: HostRuntime) {
 fn line_end(input: &[u8]) -> usize
     ensures { result ≤ length input.now }
 {
-    let mut i = 0;
-    while i < input.len() {
-        if input[i] == b'\n' {
-            return i;
-        }
-        i += 1;
-    }
-    i
-}
-
-// The place after a line, within n bytes.
-fn past(line: usize, n: usize) -> usize
-    ensures { result ≤ n }
-{
-    if line < n {
-        return line + 1;
-    }
-    n
+    input
+        .iter()
+        .position(|&byte| byte == b'\n')
+        .unwrap_or(input.len())
 }

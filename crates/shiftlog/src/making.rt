@@ -3,7 +3,6 @@ ghost use Rattle.std.specs.Prelude.{◌≤◌, length};
 
 use crate::output::{answer, tell};
 use log_book::Logbook;
-use log_format::Written;
 use recorder::Recorder;
 
 // Writes the log of a session whose first bytes are at hand, and reports its length; or that it is too long.
@@ -11,27 +10,22 @@ pub(crate) fn write(rt: &HostRuntime, input: &mut [u8], start: usize, n: usize)
     requires { (start ≤ n) × (n ≤ length input.old) }
 {
     let mut events = [0u32; 16_377];
-    let fresh = Logbook::fresh();
-    let begun = fresh.feed(&input[start..n], &mut events);
-    let all = rest(rt, begun, input, &mut events);
-    let book = all.finish(&mut events);
-    let recorder = book.recorder;
-    put(rt, recorder, &events);
+    let begun = Logbook::fresh().feed(&input[start..n], &mut events);
+    let book = rest(rt, begun, input, &mut events).finish(&mut events);
+    put(rt, book.recorder, &events);
 }
 
 // Feeds the rest of the input, piece after piece. A proved loop has to end, and nothing says that the input does: the loop counts its
-// pieces down, from a number that no run uses up.
+// pieces, up to a number that no run uses up.
 fn rest(rt: &HostRuntime, begun: Logbook, input: &mut [u8], events: &mut [u32]) -> Logbook {
     let mut book = begun;
     let mut stdin = rt.stdin();
-    let mut pieces = u64::MAX;
-    while 0 < pieces {
+    for _ in 0..u64::MAX {
         let n = streams::fill(&mut stdin, input);
         if n == 0 {
             break;
         }
         book = book.feed(&input[..n], events);
-        pieces -= 1;
     }
     book
 }
@@ -40,14 +34,10 @@ fn rest(rt: &HostRuntime, begun: Logbook, input: &mut [u8], events: &mut [u32]) 
 fn put(rt: &HostRuntime, recorder: Recorder, events: &[u32]) {
     let mut room = [0u8; 65_536];
     let written = recorded::write(recorder, events, &mut room);
-    match written {
-        Written::Length(n) => {
-            if !answer(rt, &room[..n]) {
-                return;
-            }
+    if let Ok(n) = written {
+        if !answer(rt, &room[..n]) {
+            return;
         }
-        Written::BadRecord(position) => {}
-        Written::TooLong => {}
     }
     let mut line = [0u8; 108];
     let n = log_lines::written(written, &mut line, 0);

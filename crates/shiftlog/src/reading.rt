@@ -2,21 +2,20 @@
 ghost use Rattle.std.specs.Prelude.{◌≡◌, ◌+◌, ◌≤◌, length};
 
 use crate::output::{answer, tell};
-use log_format::{Contents, Found, Verdict};
+use log_format::Contents;
 
 // Writes whether bytes are a log, and what it holds or what is wrong.
 pub(crate) fn check(rt: &HostRuntime, log: &[u8]) {
     let mut line = [0u8; 108];
-    let verdict = log_reading::read(log);
-    let n = log_lines::verdict(verdict, log.len(), &mut line, 0);
+    let n = log_lines::verdict(log_reading::read(log), log.len(), &mut line, 0);
     answer(rt, &line[..n]);
 }
 
 // Writes a log's records as the lines of a session, each cell with its own deadline, or what is wrong.
 pub(crate) fn show(rt: &HostRuntime, log: &[u8]) {
     match log_reading::read(log) {
-        Verdict::Good(contents) => records(rt, log, contents),
-        Verdict::Refused(fault, place) => check(rt, log),
+        Ok(contents) => records(rt, log, contents),
+        Err(_) => check(rt, log),
     }
 }
 
@@ -24,9 +23,7 @@ pub(crate) fn show(rt: &HostRuntime, log: &[u8]) {
 fn records(rt: &HostRuntime, log: &[u8], contents: Contents) {
     let mut out = [0u8; 65_536];
     let mut w: usize = 0;
-    let mut k: usize = 0;
-    let most = log.len() / 3;
-    while k < most {
+    for k in 0..log.len() / 3 {
         if out.len() - w < 108 {
             if !answer(rt, &out[..w]) {
                 return;
@@ -34,7 +31,6 @@ fn records(rt: &HostRuntime, log: &[u8], contents: Contents) {
             w = 0;
         }
         w = record_line(log, contents, k, &mut out, w);
-        k += 1;
     }
     answer(rt, &out[..w]);
 }
@@ -44,49 +40,47 @@ fn record_line(log: &[u8], contents: Contents, k: usize, out: &mut [u8], at: usi
     requires { at + 108 ≤ length out.old }
     ensures { (length out.new ≡ length out.old) × (result ≤ length out.new) }
 {
-    let urgent = contents.urgent;
+    let Contents { urgent, fair, .. } = contents;
     if k < urgent {
         return opening_line(true, log_records::urgent_opening(log, contents, k), out, at);
     }
-    let fair = contents.fair;
     let j = k - urgent;
     if j < fair {
         return opening_line(false, log_records::fair_opening(log, contents, j), out, at);
     }
     match log_cells::own_event(log, contents, j - fair) {
-        Found::Word(word) => log_lines::event(word, out, at),
-        Found::Nothing => at,
+        Some(word) => log_lines::event(word, out, at),
+        None => at,
     }
 }
 
 // Puts the line of an opening that was found.
-fn opening_line(urgent: bool, found: Found, out: &mut [u8], at: usize) -> usize
+fn opening_line(urgent: bool, found: Option<u32>, out: &mut [u8], at: usize) -> usize
     requires { at + 108 ≤ length out.old }
     ensures { (length out.new ≡ length out.old) × (result ≤ length out.new) }
 {
     match found {
-        Found::Word(word) => log_lines::opening(urgent, word, out, at),
-        Found::Nothing => at,
+        Some(word) => log_lines::opening(urgent, word, out, at),
+        None => at,
     }
 }
 
 // Writes where two logs, of which the first has so many bytes, first differ.
 pub(crate) fn compare(rt: &HostRuntime, logs: &[u8], first: usize) {
-    if logs.len() < first {
+    let Some((a, b)) = logs.split_at_checked(first) else {
         tell(rt, b"shiftlog: the first log is cut short\n");
         return;
-    }
+    };
     let mut line = [0u8; 108];
-    let place = log_pairs::first_difference(&logs[..first], &logs[first..]);
-    let n = log_lines::difference(place, &mut line, 0);
+    let n = log_lines::difference(log_pairs::first_difference(a, b), &mut line, 0);
     answer(rt, &line[..n]);
 }
 
 // Writes the tail of the longer of two logs, of which the first has so many bytes.
 pub(crate) fn tail(rt: &HostRuntime, logs: &[u8], first: usize) {
-    if logs.len() < first {
+    let Some((a, b)) = logs.split_at_checked(first) else {
         tell(rt, b"shiftlog: the first log is cut short\n");
         return;
-    }
-    answer(rt, log_pairs::tail(&logs[..first], &logs[first..]));
+    };
+    answer(rt, log_pairs::tail(a, b));
 }

@@ -13,7 +13,7 @@ returns-then-n-m c =
     let a = c.args in
     part_is (length a.a.now) a.b.now ∙ second_tail a.a.now a.b.now _ c.one_begins.ensures c.if-not-one_begins.false c.if-n-m.true
 
-pub returns : goal.returns
-returns c =
+pub returns-else-n-m : goal.returns-else-n-m
+returns-else-n-m c =
     let a = c.args in
     part_is (length a.b.now) a.a.now ∙ first_tail a.a.now a.b.now _ c.one_begins.ensures c.if-not-one_begins.false c.if-n-m.false

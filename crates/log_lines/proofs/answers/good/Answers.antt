@@ -12,4 +12,4 @@ returns c =
     let e : leb (c.args.at + longest) (length c.args.out.now) ≡ true = cc in
     let room = leb-true _ _ e in
     placed_all room (omega (arith, l.within, p.within))
-    (rw c.first_byte-first.ensures at (simp append_assoc at (put_then (omega (arith, room)) (p.fits (omega (arith, room))) (l.fits (omega (arith, room, p.within, p.long))))))
+    (rw (c.from-first.ensures, c.first_byte.ensures) at (simp append_assoc at (put_then (omega (arith, room)) (p.fits (omega (arith, room))) (l.fits (omega (arith, room, p.within, p.long))))))

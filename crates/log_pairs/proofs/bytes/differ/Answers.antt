@@ -6,14 +6,14 @@ use Rattle.log_pairs.proofs.bytes.differ.Goals as goal
 pub returns-then-a-at : goal.returns-then-a-at
 returns-then-a-at c =
     let i = c.loop-at in
-    differ_here c.args.a.now c.args.b.now i.at _ i.invariant.1 (omega arith) (omega arith) c.if-a-at.true
+    differ_here c.args.a.now c.args.b.now i.at _ i.invariant (omega arith) (omega arith) c.if-a-at.true
 
 pub loop-at-preserved : goal.loop-at-preserved
 loop-at-preserved c =
     let i = c.loop-at in
-    (omega arith, differ_on c.args.a.now c.args.b.now i.at _ i.invariant.1 (omega arith) (omega arith) c.if-a-at.false)
+    differ_on c.args.a.now c.args.b.now i.at _ i.invariant (omega arith) (omega arith) c.if-a-at.false
 
 pub returns : goal.returns
 returns c =
     let i = c.loop-at in
-    differ_end c.args.a.now c.args.b.now i.at _ i.invariant.1 (omega arith)
+    differ_end c.args.a.now c.args.b.now i.at _ i.invariant (omega arith)

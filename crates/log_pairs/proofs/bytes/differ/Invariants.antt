@@ -1,10 +1,7 @@
--- `log_pairs::bytes::differ` meets its contract. The invariant: from here on the logs differ where they do from the start.
-use Rattle.std.proofs.Common.{◌≡◌, ◌-◌, ◌≤◌}
+-- `log_pairs::bytes::differ`. The invariant: from here on the logs differ where they do from the start.
+use Rattle.std.proofs.Common.{◌≡◌}
 use Rattle.log_pairs.proofs.Differ.{differs}
 use Rattle.log_pairs.proofs.bytes.differ.Given as goal
 
 abbrev pub invariant-loop-at : goal.invariant-loop-at
-invariant-loop-at l = (l.start ≤ l.at) × (differs l.a l.b l.at ≡ differs l.a l.b l.start)
-
-abbrev pub decreases-loop-at : goal.decreases-loop-at
-decreases-loop-at l = l.n - l.at
+invariant-loop-at l = differs l.a l.b l.at ≡ differs l.a l.b l.start

@@ -5,7 +5,7 @@ use Rattle.log_writing.proofs.Pieces.{table_size, start_put}
 use Rattle.log_writing.proofs.placing.put_start.Goals as goal
 
 pub put_words-requires : goal.put_words-requires
-put_words-requires c = let a = c.args in rw length-set (omega (arith, table_size a.u a.f a.e))
+put_words-requires c = let a = c.args in (rw length-set (omega (arith, table_size a.u a.f a.e)), omega arith)
 
 pub returns : goal.returns
 returns c =
