@@ -1,6 +1,6 @@
 // Logs that are read: one, two beside each other, and one of which a record is asked for.
 use crate::input::{byte, fill, number};
-use crate::output::{counted, five, line, no};
+use crate::output::{counted, line};
 use log_format::{Contents, Flaw};
 
 // A body of a log, as a case names it.
@@ -35,21 +35,16 @@ pub(crate) fn reading(rt: &HostRuntime, log: &[u8]) -> Option<()> {
 
 // What a log of so many bytes holds.
 fn contents(rt: &HostRuntime, c: Contents, n: usize) -> Option<()> {
-    five(
-        rt,
-        [
-            u64::from(c.form.first_byte()),
-            c.urgent as u64,
-            c.fair as u64,
-            c.events as u64,
-            n as u64,
-        ],
-    )
+    let first = u64::from(c.form.first_byte());
+    let urgent = c.urgent as u64;
+    let fair = c.fair as u64;
+    let events = c.events as u64;
+    line(rt, b"ok", &[first, urgent, fair, events, n as u64])
 }
 
 // That bytes are no log, why, and where.
 fn refused(rt: &HostRuntime, flaw: Flaw) -> Option<()> {
-    no(rt, flaw.fault.number(), flaw.place as u64, 2)
+    line(rt, b"no", &[flaw.fault.number(), flaw.place as u64])
 }
 
 // Where a log and the next one, of m bytes, differ, and the tail.
@@ -69,8 +64,8 @@ fn compared(rt: &HostRuntime, a: &[u8], b: &[u8]) -> Option<()> {
 // A place where two logs differ, or that there is none.
 fn difference(rt: &HostRuntime, place: Option<usize>) -> Option<()> {
     match place {
-        Some(place) => line(rt, b"at", place as u64, 0, 1),
-        None => line(rt, b"none", 0, 0, 0),
+        Some(place) => line(rt, b"at", &[place as u64]),
+        None => line(rt, b"none", &[]),
     }
 }
 
@@ -97,7 +92,7 @@ fn record(log: &[u8], c: Contents, body: Body, k: usize) -> Option<u32> {
 // A record, or that there is none.
 fn found(rt: &HostRuntime, found: Option<u32>) -> Option<()> {
     match found {
-        Some(word) => line(rt, b"word", u64::from(word), 0, 1),
-        None => line(rt, b"nothing", 0, 0, 0),
+        Some(word) => line(rt, b"word", &[u64::from(word)]),
+        None => line(rt, b"nothing", &[]),
     }
 }

@@ -1,7 +1,7 @@
 // Logs that are written.
 use crate::input::{fill, number};
-use crate::output::{counted, line, no};
-use log_format::{Fault, Form, Unwritten};
+use crate::output::{counted, line};
+use log_format::{Form, Unwritten};
 
 // The most openings of a body, and the most events.
 const MOST_OPENINGS: usize = 40;
@@ -51,13 +51,8 @@ fn take(rt: &HostRuntime, bytes: &mut [u8], words: &mut [u32]) -> Option<()> {
 // What the writer says, as a line.
 fn said(rt: &HostRuntime, written: Result<usize, Unwritten>) -> Option<()> {
     match written {
-        Ok(n) => line(rt, b"ok", n as u64, 0, 1),
-        Err(Unwritten::BadRecord(position)) => no(
-            rt,
-            Fault::BadRecord.number(),
-            position as u64,
-            2,
-        ),
-        Err(Unwritten::TooLong) => no(rt, 26, 0, 1),
+        Ok(n) => line(rt, b"ok", &[n as u64]),
+        Err(Unwritten::BadRecord(position)) => line(rt, b"no", &[22, position as u64]),
+        Err(Unwritten::TooLong) => line(rt, b"no", &[26]),
     }
 }

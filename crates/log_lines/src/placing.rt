@@ -1,5 +1,5 @@
 // Where a line is put: at a place that has room for the longest.
-ghost use Rattle.std.specs.Prelude.{◌≡◌, [], ◌∷◌, map, ◌+◌, ◌≤◌, leb, length, take};
+ghost use Rattle.std.specs.Prelude.{◌≡◌, map, ◌+◌, ◌*◌, ◌≤◌, leb, length};
 ghost use Rattle.text.specs.Decimal.{decimal_of};
 ghost use Rattle.text.specs.Lines.{line_with, Placed};
 ghost use Rattle.log_lines.specs.Answers.{longest};
@@ -10,20 +10,17 @@ use crate::LONGEST;
 pub(crate) fn room_for_line(room: usize, at: usize) -> bool
     ensures { result ≡ leb (at + longest) room }
 {
-    if room < at {
-        return false;
-    }
-    LONGEST <= room - at
+    at <= room && LONGEST <= room - at
 }
 
-// Puts a short word and the first count of the numbers a, b and 0 as a line, and answers the place after it; with less room than the
-// longest line may need nothing, and answers the place.
-pub(crate) fn line(out: &mut [u8], at: usize, word: &[u8], a: u64, b: u64, count: usize) -> usize
-    requires { length word.now ≤ 4 }
-    ensures { Placed longest (line_with word.now (map decimal_of (take count (a ∷ b ∷ 0 ∷ [])))) out.old at out.new result }
+// Puts a short word and a few numbers as a line, and answers the place after it; with less room than the longest line may need nothing,
+// and answers the place.
+pub(crate) fn line(out: &mut [u8], at: usize, word: &[u8], numbers: &[u64]) -> usize
+    requires { length word.now + 21 * length numbers.now + 1 ≤ longest }
+    ensures { Placed longest (line_with word.now (map decimal_of numbers.now)) out.old at out.new result }
 {
     if !room_for_line(out.len(), at) {
         return at;
     }
-    text::line(out, at, word, &[a, b, 0][..count.min(3)])
+    text::line(out, at, word, numbers)
 }
