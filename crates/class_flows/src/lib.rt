@@ -11,30 +11,22 @@ use packets::Queue;
 pub fn open(lane: Classes, flow: u64, weight: u64) -> Done
     ensures { result ≡ open_of lane flow weight }
 {
-    let was = &lane.queue;
-    let kept = flows::open(was, flow, weight);
-    let answer = kept.answer;
-    let packets::Answer::Refused(refusal) = answer else {
-        let service = was.service;
-        let flows = kept.flows;
-        let packets = was.packets;
-        let tree_was = lane.tree;
-        let tree = tree_was.weigh(flow, weight);
+    let kept = flows::open(&lane.queue, flow, weight);
+    if let packets::Answer::Refused(refusal) = kept.answer {
         return Done {
-            lane: Classes {
-                tree,
-                queue: Queue {
-                    service,
-                    flows,
-                    packets,
-                },
-            },
-            answer: Answer::Opened,
+            lane,
+            answer: Answer::Refused(refusal),
         };
+    }
+    let tree = lane.tree.weigh(flow, weight);
+    let flows = kept.flows;
+    let queue = Queue {
+        flows,
+        ..lane.queue
     };
     Done {
-        lane,
-        answer: Answer::Refused(refusal),
+        lane: Classes { tree, queue },
+        answer: Answer::Opened,
     }
 }
 
@@ -42,28 +34,20 @@ pub fn open(lane: Classes, flow: u64, weight: u64) -> Done
 pub fn close(lane: Classes, flow: u64) -> Done
     ensures { result ≡ close_of lane flow }
 {
-    let was = &lane.queue;
-    let kept = flows::close(was, flow);
-    let answer = kept.answer;
-    let packets::Answer::Refused(refusal) = answer else {
-        let service = was.service;
-        let flows = kept.flows;
-        let packets = was.packets;
-        let tree = lane.tree;
+    let kept = flows::close(&lane.queue, flow);
+    if let packets::Answer::Refused(refusal) = kept.answer {
         return Done {
-            lane: Classes {
-                tree,
-                queue: Queue {
-                    service,
-                    flows,
-                    packets,
-                },
-            },
-            answer: Answer::Closed,
+            lane,
+            answer: Answer::Refused(refusal),
         };
+    }
+    let flows = kept.flows;
+    let queue = Queue {
+        flows,
+        ..lane.queue
     };
     Done {
-        lane,
-        answer: Answer::Refused(refusal),
+        lane: Classes { queue, ..lane },
+        answer: Answer::Closed,
     }
 }

@@ -12,29 +12,23 @@ use units::Tag;
 pub fn offer(lane: Classes, flow: u64, length: u64) -> Done
     ensures { result ≡ offer_of lane flow length }
 {
-    let was = lane.queue;
-    let quote = Quote {
+    let was = lane.queue.flow_at(flow);
+    let untagged = Quote {
         fits: true,
         start: Tag(0),
         finish: Tag(0),
     };
-    let flow_was = was.flow_at(flow);
-    let kept = queue::put(was, flow, length, quote);
-    let answer = kept.answer;
+    let kept = queue::put(lane.queue, flow, length, untagged);
     let queue = kept.queue;
-    let tree_was = lane.tree;
-    let packets::Answer::Refused(refusal) = answer else {
-        let tree = ascent::offer(tree_was, flow);
+    if let packets::Answer::Refused(refusal) = kept.answer {
         return Done {
-            lane: Classes { tree, queue },
-            answer: Answer::Taken(flow_was.next),
+            lane: Classes { queue, ..lane },
+            answer: Answer::Refused(refusal),
         };
-    };
+    }
+    let tree = ascent::offer(lane.tree, flow);
     Done {
-        lane: Classes {
-            tree: tree_was,
-            queue,
-        },
-        answer: Answer::Refused(refusal),
+        lane: Classes { tree, queue },
+        answer: Answer::Taken(was.next),
     }
 }

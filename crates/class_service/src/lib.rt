@@ -13,40 +13,27 @@ use units::Refusal;
 pub fn begin(lane: Classes) -> Done
     ensures { result ≡ begin_of lane }
 {
-    let tree_was = &lane.tree;
-    let queue_was = &lane.queue;
-    let service = queue_was.service;
-    let flows = queue_was.flows;
-    let packets = queue_was.packets;
-    let was = Queue {
-        service,
-        flows,
-        packets,
-    };
-    let met = descent::flow_met(tree_was);
-    let kept = taking::take(was, met);
-    let answer = kept.answer;
-    let packets::Answer::Refused(refusal) = answer else {
-        let queue = kept.queue;
-        let served = queue.service;
-        if charging::passes(tree_was, served.flow, served.length) {
-            return Done {
-                lane,
-                answer: Answer::Refused(Refusal::TagsUsedUp),
-            };
-        }
-        let node = tree_was.flow_node(served.flow);
-        let start = node.start;
-        let tree = lane.tree;
-        let begun = charging::begin(tree, served.flow, served.length);
+    let met = descent::flow_met(&lane.tree);
+    let kept = taking::take(Queue { ..lane.queue }, met);
+    if let packets::Answer::Refused(refusal) = kept.answer {
         return Done {
-            lane: Classes { tree: begun, queue },
-            answer: Answer::Begun(served.flow, served.number, served.length, start),
+            lane,
+            answer: Answer::Refused(refusal),
         };
-    };
+    }
+    let queue = kept.queue;
+    let served = queue.service;
+    if charging::passes(&lane.tree, served.flow, served.length) {
+        return Done {
+            lane,
+            answer: Answer::Refused(Refusal::TagsUsedUp),
+        };
+    }
+    let node = lane.tree.flow_node(served.flow);
+    let tree = charging::begin(lane.tree, served.flow, served.length);
     Done {
-        lane,
-        answer: Answer::Refused(refusal),
+        lane: Classes { tree, queue },
+        answer: Answer::Begun(served.flow, served.number, served.length, node.start),
     }
 }
 
@@ -54,22 +41,18 @@ pub fn begin(lane: Classes) -> Done
 pub fn end(lane: Classes) -> Done
     ensures { result ≡ end_of lane }
 {
-    let was = lane.queue;
-    let served = was.service;
-    let kept = service::end(was);
-    let answer = kept.answer;
+    let served = lane.queue.service;
+    let kept = service::end(lane.queue);
     let queue = kept.queue;
-    let packets::Answer::Refused(refusal) = answer else {
-        let tree_was = lane.tree;
-        let tree = ascent::end(tree_was, served.flow);
+    if let packets::Answer::Refused(refusal) = kept.answer {
         return Done {
-            lane: Classes { tree, queue },
-            answer: Answer::Ended(served.flow, served.number, served.length),
+            lane: Classes { queue, ..lane },
+            answer: Answer::Refused(refusal),
         };
-    };
-    let tree = lane.tree;
+    }
+    let tree = ascent::end(lane.tree, served.flow);
     Done {
         lane: Classes { tree, queue },
-        answer: Answer::Refused(refusal),
+        answer: Answer::Ended(served.flow, served.number, served.length),
     }
 }

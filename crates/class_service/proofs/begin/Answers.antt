@@ -11,15 +11,15 @@ returns-then-passes c =
     let kept : c.take-kept.result ≡ take_of u.queue (flow_met u.tree) = rw (← c.flow_met-met.ensures) c.take-kept.ensures in
     ((begin_by u c.take-kept.result kept).1 c.in_default.not-Refused).0 (sym c.passes.ensures ∙ c.if-passes.true)
 
-pub returns-in_default : goal.returns-in_default
-returns-in_default c =
-    let u = c.args.lane in
-    let kept : c.take-kept.result ≡ take_of u.queue (flow_met u.tree) = rw (← c.flow_met-met.ensures) c.take-kept.ensures in
-    rw (c.begin-begun.ensures, c.flow_node-node.ensures)
-    (((begin_by u c.take-kept.result kept).1 c.in_default.not-Refused).1 (sym c.passes.ensures ∙ c.if-passes.false))
-
 pub returns : goal.returns
 returns c =
+    let u = c.args.lane in
+    let kept : c.take-kept.result ≡ take_of u.queue (flow_met u.tree) = rw (← c.flow_met-met.ensures) c.take-kept.ensures in
+    rw (c.begin-tree.ensures, c.flow_node-node.ensures)
+    (((begin_by u c.take-kept.result kept).1 c.in_default.not-Refused).1 (sym c.passes.ensures ∙ c.if-passes.false))
+
+pub returns-in-Refused : goal.returns-in-Refused
+returns-in-Refused c =
     let u = c.args.lane in
     let kept : c.take-kept.result ≡ take_of u.queue (flow_met u.tree) = rw (← c.flow_met-met.ensures) c.take-kept.ensures in
     (begin_by u c.take-kept.result kept).0 _ c.in-Refused.is
