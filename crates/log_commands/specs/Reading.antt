@@ -2,7 +2,7 @@
 use Rattle.std.specs.Prelude.{Bool, true, false, cond, ◌&&◌, List, [], ◌∷◌, ℕ, eqb, length, drop, Option, None, Some}
 use Rattle.text.specs.Reading.{Taken, read_number}
 use Rattle.log_commands.specs.declared.Command.{Command}
-use Rattle.log_commands.specs.declared.Command.TheVariants.{Check, Show, Write, Diff, Tail, Unknown}
+use Rattle.log_commands.specs.declared.Command.TheVariants.{Check, Show, Write, Diff, Tail}
 
 -- the words check, show and write, and diff and tail with the blank after them
 abbrev pub check_word : List ℕ
@@ -31,17 +31,17 @@ abbrev pub is_word : List ℕ → List ℕ → Bool
 is_word line word = eqb (length line) (length word) && starts_with line word
 
 -- the command of a line that ends with a number, by what stands before it
-abbrev pub numbered : List ℕ → ℕ → Command
-numbered line n = cond (starts_with line diff_word) (Diff n) (cond (starts_with line tail_word) (Tail n) Unknown)
+abbrev pub numbered : List ℕ → ℕ → Option Command
+numbered line n = cond (starts_with line diff_word) (Some (Diff n)) (cond (starts_with line tail_word) (Some (Tail n)) None)
 
 -- a number is the last that the line has
-abbrev pub ending_in : List ℕ → Option Taken → Command
-ending_in line None = Unknown
+abbrev pub ending_in : List ℕ → Option Taken → Option Command
+ending_in line None = None
 ending_in line (Some (n, [])) = numbered line n
-ending_in line (Some (n, b ∷ rest)) = Unknown
+ending_in line (Some (n, b ∷ rest)) = None
 
 -- a line: a word alone, or a word, a blank and a number
-abbrev pub command_of : List ℕ → Command
+abbrev pub command_of : List ℕ → Option Command
 command_of line =
-    cond (is_word line check_word) Check
-    (cond (is_word line show_word) Show (cond (is_word line write_word) Write (ending_in line (read_number (drop 5 line)))))
+    cond (is_word line check_word) (Some Check)
+    (cond (is_word line show_word) (Some Show) (cond (is_word line write_word) (Some Write) (ending_in line (read_number (drop 5 line)))))

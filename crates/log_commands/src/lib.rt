@@ -5,14 +5,13 @@ mod reading;
 
 pub use reading::parse;
 
-// What a line asks for: to check a log, to show its records, to write a session's log; for two logs, the first of so many bytes, where
-// they differ or the tail of the longer; or nothing that there is.
-#[derive(Clone, Copy)]
+// What a line asks for: to check a log, to show its records, to write a session's log; or for two logs, the first of so many bytes, where
+// they differ, or the tail of the longer.
+#[derive(Clone, Copy, Debug, PartialEq, Eq)]
 pub enum Command {
     Check,
     Show,
     Write,
     Diff(usize),
     Tail(usize),
-    Unknown,
 }

@@ -22,12 +22,12 @@ fn main(rt: HostRuntime) {
     let line = line_end(&input[..n]);
     let start = (line + 1).min(n);
     match log_commands::parse(&input[..line]) {
-        Command::Check => check(&rt, &input[start..n]),
-        Command::Show => show(&rt, &input[start..n]),
-        Command::Write => write(&rt, &mut input, start, n),
-        Command::Diff(first) => compare(&rt, &input[start..n], first),
-        Command::Tail(first) => tail(&rt, &input[start..n], first),
-        Command::Unknown => tell(&rt, b"shiftlog: there is no such command\n"),
+        Some(Command::Check) => check(&rt, &input[start..n]),
+        Some(Command::Show) => show(&rt, &input[start..n]),
+        Some(Command::Write) => write(&rt, &mut input, start, n),
+        Some(Command::Diff(first)) => compare(&rt, &input[start..n], first),
+        Some(Command::Tail(first)) => tail(&rt, &input[start..n], first),
+        None => tell(&rt, b"shiftlog: there is no such command\n"),
     }
 }
 

@@ -10,4 +10,4 @@ returns-then-end-line c =
     let a : is_word line check_word ≡ false = cc in
     let b : is_word line show_word ≡ false = cc in
     let w : is_word line write_word ≡ false = cc in
-    sym (number_before line a b w _ _ c.in-Some.ensures.1 c.if-end-line.true)
+    sym (number_before line a b w _ _ c.in_ok-n.ensures.1 c.if-end-line.true)
