@@ -15,10 +15,6 @@ use Rattle.link.proofs.Searched.{Searched, none, one, searched}
 abbrev pub PassedTo : ℕ → ℕ → List Declaration → Type 0
 PassedTo passed horizon ds = (s : ℕ) → passed ≤ s → s ≤ horizon → demand_of ds s ≤ s
 
--- before the first question none was asked for
-pub none_passed : (horizon : ℕ) (ds : List Declaration) → PassedTo (horizon + 1) horizon ds
-none_passed horizon ds s l m = absurd (omega arith)
-
 module _ (passed horizon : ℕ) (ds : List Declaration) (some : 1 < passed) where
   -- where demand by the t before those passed is at most that t, all from that demand on pass
   pub passed_on : PassedTo passed horizon ds → (demand : ℕ) → demand ≡ demand_of ds (passed - 1) → demand ≤ passed - 1 → PassedTo demand horizon ds

@@ -1,13 +1,8 @@
 -- Each case of what a command gives, from the tests that lead to it.
 use mathlib.Core.Path.{◌≡◌, refl, sym, ap, ◌∙◌}
 use mathlib.Core.Bool.{Bool, true, false, cond}
-use Prim.Native.Nat.{ℕ, ◌+◌, ◌≤◌, ◌<◌}
-use borrow.Author.Tests.{le-ltb, lt-ltb}
-use lib.ListN.{set}
 use Rattle.units.specs.declared.Refusal.{Refusal}
-use Rattle.units.specs.declared.Refusal.TheVariants.{NoCommand}
 use Rattle.plans.specs.declared.Plan.{Plan}
-use Rattle.classes.specs.declared.Call.{Call}
 use Rattle.plans.specs.Plans.{broken}
 use Rattle.std.specs.Prelude.{Result, Ok, Err}
 use Rattle.planting.specs.declared.Planted as planting
@@ -16,25 +11,9 @@ use Rattle.planting.proofs.Laws.{set_up_broken, set_up_whole}
 use Rattle.classes.specs.Lane.{lane_of}
 use Rattle.class_desk.specs.declared.Desk.{Desk}
 use Rattle.class_desk.specs.declared.Command.{Command}
-use Rattle.class_desk.specs.declared.Command.TheVariants.{Class, Hang, SetUp, Ask}
+use Rattle.class_desk.specs.declared.Command.TheVariants.{SetUp}
 use Rattle.class_desk.specs.declared.Reply.TheVariants.{Noted, Refused}
-use Rattle.class_desk.specs.Desk.{no_plan, class_more, describing, refused, settled, hear_first, hear_then, hear_of}
-
--- one class more
-module _ (p : Plan) (parent weight : ℕ) where
-  -- there is room for it
-  pub class_next : p.count < 31
-      → record {
-        count = p.count + 1;
-        parents = set p.parents p.count parent;
-        weights = set p.weights p.count weight;
-        classes = p.classes;
-      } ≡ class_more p parent weight
-  class_next h = rw (lt-ltb p.count 31 h)
-
-  -- they are too many
-  pub class_past : 31 ≤ p.count → record { count = 32; parents = p.parents; weights = p.weights; classes = p.classes } ≡ class_more p parent weight
-  class_past h = rw (le-ltb p.count 31 h)
+use Rattle.class_desk.specs.Desk.{no_plan, describing, settled, hear_first, hear_then, hear_of}
 
 -- setting up, t being what it gave
 module _ (d : Desk) (t : planting.Planted) (e : t ≡ set_up_of d.lane d.plan) where
@@ -64,13 +43,6 @@ module _ (d : Desk) (t : planting.Planted) (e : t ≡ set_up_of d.lane d.plan) w
   pub starts_over : (r : Refusal) → t.answer ≡ Err r → (none : Plan) → none ≡ no_plan
       → record { desk = record { ready = false; plan = none; lane = t.lane }; reply = Refused r } ≡ hear_first d SetUp
   starts_over r q none n = rw (same_lane r q) (starts_anew r q none n)
-
--- after the tree is set up nothing but a call is taken
-pub not_asked : (d : Desk) (command : Command) → ((call : Call) → command ≡ Ask call → ⊥) → refused d NoCommand ≡ hear_then d command
-not_asked d (Class parent weight) k = refl
-not_asked d (Hang flow class) k = refl
-not_asked d SetUp k = refl
-not_asked d (Ask call) k = absurd (k call refl)
 
 -- a command after the tree is set up, and before
 module _ (d : Desk) (command : Command) where

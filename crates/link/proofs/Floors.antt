@@ -1,12 +1,8 @@
 -- The floor by doubling and halving: what holds before each step, and what a step makes of it.
 use mathlib.Core.Path.{◌≡◌, refl, sym, ◌∙◌, ap}
-use Prim.Native.Nat.{ℕ, zero, suc, ◌+◌, ◌-◌, ◌*◌, ◌/◌, ◌%◌, ◌≤◌, ◌<◌}
-use native.Mathlib.Nat.{mod-eq_of_lt, mul_assoc, mul_comm, mul-le-mul_left, mul-one, mul-div_left, div-eq_of_lt-le, add-mul, one-mul}
+use Prim.Native.Nat.{ℕ, zero, suc, ◌+◌, ◌-◌, ◌*◌, ◌/◌, ◌≤◌, ◌<◌}
+use native.Mathlib.Nat.{mul_assoc, mul_comm, mul-le-mul_left, mul-one, mul-div_left, div-eq_of_lt-le, add-mul, one-mul}
 use native.Mathlib.Omega.{arith}
-
--- a shift by one place is a doubling, where the double fits
-pub doubled : (n : ℕ) → n * 2 < 18446744073709551616 → (n * 2) % 18446744073709551616 ≡ n * 2
-doubled n l = mod-eq_of_lt l
 
 -- a period doubled so many times
 unfoldable pub twice_over : ℕ → ℕ → ℕ

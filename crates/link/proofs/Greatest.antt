@@ -1,21 +1,20 @@
 -- The greatest deadline: none is above it, it is one of them, and of a list within its limits it is at most 4,096.
-use mathlib.Core.Path.{◌≡◌}
+use mathlib.Core.Path.{◌≡◌, refl}
 use mathlib.Core.List.{List, [], ◌∷◌}
-use Prim.Native.Nat.{ℕ, zero, suc, ◌≤◌, ◌<◌, max}
+use Prim.Native.Nat.{ℕ, suc, ◌≤◌, ◌<◌, max}
 use native.Mathlib.Nat.{not-suc-le-zero}
 use native.Mathlib.Decide.{dec_le}
 use native.Mathlib.Omega.{arith}
 use lib.ListN.{length, get_or}
+use Rattle.std.proofs.lemmas.List.Recursion.{max_bounds, max_least}
 use Rattle.link.specs.declared.Declaration.{Declaration}
 use Rattle.link.specs.Limits.{no_declaration}
 use Rattle.link.specs.Rate.{greatest_of}
-use Rattle.link.proofs.Numbers.{Good, good_rest}
+use Rattle.link.proofs.Numbers.{Good}
 
 pub greatest_most : (ds : List Declaration) (k : ℕ) → k < length ds → (get_or ds k no_declaration).deadline ≤ greatest_of ds
 unfolding greatest_of
-greatest_most [] k l = absurd (not-suc-le-zero l)
-greatest_most (d ∷ ds) zero l = omega arith
-greatest_most (d ∷ ds) (suc k) l = omega (arith, greatest_most ds k (omega arith))
+greatest_most ds k l = max_bounds greatest_of (λ d. d.deadline) refl (λ d ds. refl) ds k no_declaration l
 
 pub greatest_one : (ds : List Declaration) → 0 < length ds → (k : ℕ) × (k < length ds) × ((get_or ds k no_declaration).deadline ≡ greatest_of ds)
 unfolding greatest_of
@@ -30,8 +29,7 @@ greatest_one (d ∷ e ∷ ds) l = go (dec_le (greatest_of (e ∷ ds)) d.deadline
 
 pub greatest_4096 : (ds : List Declaration) → Good ds → greatest_of ds ≤ 4096
 unfolding greatest_of
-greatest_4096 [] w = omega arith
-greatest_4096 (d ∷ ds) w = omega (arith, greatest_4096 ds (good_rest d ds w), (w 0 (omega arith)).2.1)
+greatest_4096 ds w = max_least greatest_of (λ d. d.deadline) refl (λ d ds. refl) ds no_declaration 4096 (λ k l. (w k l).2.1)
 
 -- where it is above a number, there is a declaration
 pub some_there : (ds : List Declaration) (n : ℕ) → n < greatest_of ds → 0 < length ds
