@@ -8,7 +8,7 @@ use Prim.Native.Nat.{ℕ, ◌+◌, ◌≤◌, ◌<◌}
 use native.Mathlib.Decide.{dec_lt}
 use native.Mathlib.Numerals.{add-one}
 use native.Mathlib.Omega.{arith}
-use borrow.Author.Tests.{eq-eqb, ne_eqb, lt-leb, eqb-true, eqb-false}
+use borrow.Author.Tests.{eq-eqb, ne_eqb, lt-leb, lt-ltb, le-ltb, eqb-true, eqb-false}
 use lib.Dec.{eqb}
 use lib.ListN.{length, take, set, length-append, length-set}
 use lib.Seq.{take-suc-set}
@@ -17,7 +17,8 @@ use Rattle.text.specs.Lines.{line_feed}
 use Rattle.text.specs.Input.{onto, lines_of, joined}
 use Rattle.text.proofs.Input.{begun, begun_more, begun_ended}
 use Rattle.session.specs.Whole.{heard_as}
-use Rattle.log_book.specs.Whole.{kept_as}
+use Rattle.feeding.specs.Lines.{kept_of}
+use Rattle.session.specs.Steps.{kept_as}
 use Rattle.recorder.specs.declared.Recorder.{Recorder}
 use Rattle.recorder.specs.Laws.{recorded_from, room_from}
 use Rattle.recorded.proofs.Wrote.{writes_logs}
@@ -25,26 +26,26 @@ use Rattle.log_book.specs.declared.Logbook.{Logbook}
 use Rattle.log_book.specs.Whole.{calls_by, heard_in, calls_in}
 use Rattle.log_book.specs.Steps.{fresh_logbook, ended, room_ended, step_of, room_step, fed_of, room_fed, finish_of, room_finished}
 use Rattle.log_book.specs.Laws.{pieces_of, room_pieces, FedInPieces, LogsSessions}
-use Rattle.log_book.proofs.Steps.{together, Steps, step_heard, step_kept, step_long}
+use Rattle.log_book.proofs.Steps.{together, Steps, step_heard, step_kept}
 
 -- ---- the logbook keeps this line, or that it is longer
 data Holds (s : Logbook) (line : List ℕ) : Type 0 where
-  whole : length s.kept ≡ 32 → length line ≤ 32 → s.count ≡ length line → take (length line) s.kept ≡ line → Holds s line
-  over : length s.kept ≡ 32 → 32 < length line → s.count ≡ 33 → Holds s line
+  whole : length s.line.kept ≡ 32 → length line ≤ 32 → s.line.count ≡ length line → take (length line) s.line.kept ≡ line → Holds s line
+  over : length s.line.kept ≡ 32 → 32 < length line → s.line.count ≡ 33 → Holds s line
 
-holds_none : (s : Logbook) → length s.kept ≡ 32 → s.count ≡ 0 → Holds s []
+holds_none : (s : Logbook) → length s.line.kept ≡ 32 → s.line.count ≡ 0 → Holds s []
 holds_none s l e = whole l (omega arith) e refl
 
-kept_long : {s : Logbook} {line : List ℕ} → Holds s line → length s.kept ≡ 32
+kept_long : {s : Logbook} {line : List ℕ} → Holds s line → length s.line.kept ≡ 32
 kept_long (whole l m n t) = l
 kept_long (over l m n) = l
 
 -- and asks what the line asks
-heard_same : (s : Logbook) (line : List ℕ) → Holds s line → kept_as s.kept s.count ≡ heard_as line
+heard_same : (s : Logbook) (line : List ℕ) → Holds s line → kept_as s.line ≡ heard_as line
 heard_same s line (whole l m n t) = rw (n, t)
 heard_same s line (over l m n) = rw (n, lt-leb (length line) 32 m)
 
-not_none : (s : Logbook) (x : ℕ) (line : List ℕ) → Holds s (x ∷ line) → s.count ≡ 0 → ⊥
+not_none : (s : Logbook) (x : ℕ) (line : List ℕ) → Holds s (x ∷ line) → s.line.count ≡ 0 → ⊥
 not_none s x line (whole l m n t) z = omega arith
 not_none s x line (over l m n) z = omega arith
 
@@ -65,10 +66,10 @@ notes_next s b input room t is e h = (
 
 notes_end : (s : Logbook) (line room : List ℕ) → Holds s line → NotesCalls s [] room (heard_in (begun line []))
 unfolding fed_of room_fed heard_in begun recorded_from room_from
-notes_end s [] room (whole l m n t) = rw (eq-eqb s.count 0 n) (refl, refl)
+notes_end s [] room (whole l m n t) = rw (eq-eqb s.line.count 0 n) (refl, refl)
 notes_end s [] room (over l m n) = absurd (omega arith)
 notes_end s (x ∷ line) room h =
-    rw (ne_eqb s.count 0 (not_none s x line h), heard_same s (x ∷ line) h, append-nil (calls_by (heard_as (x ∷ line)))) (refl, refl)
+    rw (ne_eqb s.line.count 0 (not_none s x line h), heard_same s (x ∷ line) h, append-nil (calls_by (heard_as (x ∷ line)))) (refl, refl)
 
 -- a line's call, and then further calls
 calls_on : (r : Recorder) (o : Option Call) (calls : List Call) (room : List ℕ)
@@ -86,21 +87,28 @@ module _ (s : Logbook) (line : List ℕ) (b : ℕ) where
   grown : length (line ++ b ∷ []) ≡ length line + 1
   grown = length-append line (b ∷ [])
 
-  holds_more : Holds s line → s.count < 32 → Holds (together s.recorder (set s.kept s.count b) (s.count + 1)) (line ++ b ∷ [])
+  holds_more : Holds s line → s.line.count < 32 → Holds (together s.recorder (record { kept = set s.line.kept s.line.count b; count = s.line.count + 1 })) (line ++ b ∷ [])
   holds_more (whole l m n t) k =
-      whole (length-set s.kept s.count b ∙ l) (omega (arith, grown)) (omega (arith, grown))
-      (rw (n, grown, add-one (length line), take-suc-set s.kept (length line) b (omega arith), t))
+      whole (length-set s.line.kept s.line.count b ∙ l) (omega (arith, grown)) (omega (arith, grown))
+      (rw (n, grown, add-one (length line), take-suc-set s.line.kept (length line) b (omega arith), t))
   holds_more (over l m n) k = absurd (omega arith)
 
-  holds_over : Holds s line → 32 ≤ s.count → Holds (together s.recorder s.kept 33) (line ++ b ∷ [])
+  holds_over : Holds s line → 32 ≤ s.line.count → Holds (together s.recorder (record s.line { count = 33 })) (line ++ b ∷ [])
   holds_over (whole l m n t) k = over l (omega (arith, grown)) refl
   holds_over (over l m n) k = over l (omega (arith, grown)) refl
+
+  holds_kept : Holds s line → Holds (together s.recorder (kept_of s.line b)) (line ++ b ∷ [])
+  holds_kept h = go (dec_lt s.line.count 32)
+    where
+      go : Dec (s.line.count < 32) → Holds (together s.recorder (kept_of s.line b)) (line ++ b ∷ [])
+      go (yes l) = rw (lt-ltb s.line.count 32 l) (holds_more h l)
+      go (no l) = rw (le-ltb s.line.count 32 (omega arith)) (holds_over h (omega arith))
 
   -- a line at its end is noted, and the next one begins
   line_ended : (input room : List ℕ) → Holds s line → b ≡ line_feed → Again input [] → NotesCalls s (b ∷ input) room (heard_in (begun line ([] ∷ lines_of input)))
   unfolding heard_in begun
   line_ended input room h e again =
-      let o = kept_as s.kept s.count in
+      let o = kept_as s.line in
       let lines = lines_of input in
       let calls : heard_in (begun line ([] ∷ lines)) ≡ calls_by o ++ heard_in lines =
       ap heard_in (begun_ended line lines) ∙ ap (λ (p : Option Call). calls_by p ++ heard_in lines) (sym (heard_same s line h)) in
@@ -112,11 +120,8 @@ module _ (s : Logbook) (line : List ℕ) (b : ℕ) where
   -- any other byte makes the line longer
   line_goes : (input room : List ℕ) → Holds s line → (b ≡ line_feed → ⊥) → Again input (line ++ b ∷ []) → NotesCalls s (b ∷ input) room (heard_in (begun line (onto b (lines_of input))))
   line_goes input room h e again =
-      subst (λ (lines : List (List ℕ)). NotesCalls s (b ∷ input) room (heard_in lines)) (sym (begun_more line b (lines_of input))) (go (dec_lt s.count 32))
-    where
-      go : Dec (s.count < 32) → NotesCalls s (b ∷ input) room (heard_in (begun (line ++ b ∷ []) (lines_of input)))
-      go (yes l) = notes_next s b input room _ room (step_kept s b room e l) (again _ room (holds_more h l))
-      go (no l) = notes_next s b input room _ room (step_long s b room e (omega arith)) (again _ room (holds_over h (omega arith)))
+      subst (λ (lines : List (List ℕ)). NotesCalls s (b ∷ input) room (heard_in lines)) (sym (begun_more line b (lines_of input)))
+      (notes_next s b input room _ room (step_kept s b room e) (again _ room (holds_kept h)))
 
 as_lines : (input line : List ℕ) → Again input line
 unfolding lines_of

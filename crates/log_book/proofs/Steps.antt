@@ -4,12 +4,14 @@ use mathlib.Core.List.{List, [], ◌∷◌}
 use Rattle.std.proofs.Common.{Option, None, Some}
 use Prim.Native.Nat.{ℕ, ◌+◌, ◌≤◌, ◌<◌}
 use native.Mathlib.Numerals.{add-one}
-use borrow.Author.Tests.{eq-eqb, ne_eqb, lt-ltb, le-ltb}
-use lib.ListN.{length, drop, get_or, set, drop_of_length-le}
+use borrow.Author.Tests.{eq-eqb, ne_eqb}
+use lib.ListN.{length, drop, get_or, drop_of_length-le}
 use lib.Seq.{drop-cons}
 use Rattle.station.specs.declared.Call.{Call}
 use Rattle.text.specs.Lines.{line_feed}
-use Rattle.log_book.specs.Whole.{kept_as}
+use Rattle.feeding.specs.declared.line.Line.{Line}
+use Rattle.feeding.specs.Lines.{kept_of, ended_of}
+use Rattle.session.specs.Steps.{kept_as}
 use Rattle.recorder.specs.declared.Recorder.{Recorder}
 use Rattle.recorder.specs.Recording.{note_of, room_noted}
 use Rattle.recorder.specs.Laws.{recorded_from, room_from}
@@ -31,24 +33,20 @@ unfolding recorded_from room_from
 noted_call r o room c e n i = rw e (n, i)
 
 -- ---- each way that a byte can go
-abbrev pub together : Recorder → List ℕ → ℕ → Logbook
-together recorder kept count = record { recorder = recorder; kept = kept; count = count }
+abbrev pub together : Recorder → Line → Logbook
+together recorder line = record { recorder = recorder; line = line }
 
 abbrev pub Steps : Logbook → ℕ → List ℕ → Logbook → List ℕ → Type 0
 Steps s b room t is = (step_of s b ≡ t) × (room_step s b room ≡ is)
 
 module _ (s : Logbook) (b : ℕ) (room : List ℕ) where
-  pub step_heard : {next : Recorder} {is : List ℕ} → b ≡ line_feed → Noted s.recorder (kept_as s.kept s.count) room next is → Steps s b room (together next s.kept 0) is
+  pub step_heard : {next : Recorder} {is : List ℕ} → b ≡ line_feed → Noted s.recorder (kept_as s.line) room next is → Steps s b room (together next (ended_of s.line)) is
   unfolding step_of room_step
   step_heard e n = rw (eq-eqb b line_feed e, n.0, n.1) (refl, refl)
 
-  pub step_kept : (b ≡ line_feed → ⊥) → s.count < 32 → Steps s b room (together s.recorder (set s.kept s.count b) (s.count + 1)) room
+  pub step_kept : (b ≡ line_feed → ⊥) → Steps s b room (together s.recorder (kept_of s.line b)) room
   unfolding step_of room_step
-  step_kept n l = rw (ne_eqb b line_feed n, lt-ltb s.count 32 l) (refl, refl)
-
-  pub step_long : (b ≡ line_feed → ⊥) → 32 ≤ s.count → Steps s b room (together s.recorder s.kept 33) room
-  unfolding step_of room_step
-  step_long n l = rw (ne_eqb b line_feed n, le-ltb s.count 32 l) (refl, refl)
+  step_kept n = rw (ne_eqb b line_feed n) (refl, refl)
 
 -- ---- where the logbook stands after i bytes of an input
 pub record Going (s : Logbook) (input was is : List ℕ) (now : Logbook) (i : ℕ) : Type 0 where
@@ -76,18 +74,18 @@ module _ {s : Logbook} {input was is : List ℕ} {now : Logbook} {i : ℕ} (g : 
   going_ends l = let d = drop_of_length-le input {i = i} l in (sym (g.state ∙ rw d), sym (g.room ∙ rw d))
 
 -- the parts after a branch of the code, each by what the branch made of it
-pub arrived : {s : Logbook} {input was is is' : List ℕ} {recorder recorder' : Recorder} {kept kept' : List ℕ} {count count' i : ℕ}
-    → is' ≡ is → recorder' ≡ recorder → kept' ≡ kept → count' ≡ count → Going s input was is (together recorder kept count) i
-    → Going s input was is' (together recorder' kept' count') i
-arrived a b c d g = rw (a, b, c, d) g
+pub arrived : {s : Logbook} {input was is is' : List ℕ} {recorder recorder' : Recorder} {line line' : Line} {i : ℕ}
+    → is' ≡ is → recorder' ≡ recorder → line' ≡ line → Going s input was is (together recorder line) i
+    → Going s input was is' (together recorder' line') i
+arrived a b c g = rw (a, b, c) g
 
 -- ---- the end of the input
 abbrev Ends : Logbook → List ℕ → Logbook → List ℕ → Type 0
 Ends s room t is = (t ≡ finish_of s) × (is ≡ room_finished s room)
 
-pub finish_none : (s : Logbook) (room : List ℕ) → s.count ≡ 0 → Ends s room s room
-finish_none s room e = rw (eq-eqb s.count 0 e) (refl, refl)
+pub finish_none : (s : Logbook) (room : List ℕ) → s.line.count ≡ 0 → Ends s room s room
+finish_none s room e = rw (eq-eqb s.line.count 0 e) (refl, refl)
 
-pub finish_fed : (s : Logbook) (room : List ℕ) {t : Logbook} {is : List ℕ} → (s.count ≡ 0 → ⊥) → t ≡ fed_of s (line_feed ∷ []) → is ≡ room_fed s (line_feed ∷ []) room → Ends s room t is
+pub finish_fed : (s : Logbook) (room : List ℕ) {t : Logbook} {is : List ℕ} → (s.line.count ≡ 0 → ⊥) → t ≡ fed_of s (line_feed ∷ []) → is ≡ room_fed s (line_feed ∷ []) room → Ends s room t is
 unfolding fed_of room_fed step_of room_step
-finish_fed s room n e f = rw (ne_eqb s.count 0 n) (e, f)
+finish_fed s room n e f = rw (ne_eqb s.line.count 0 n) (e, f)

@@ -1,8 +1,9 @@
 -- The log of a session, byte by byte: the log so far, and the line that is not at its end yet.
-use Rattle.std.specs.Prelude.{cond, List, [], ◌∷◌, ℕ, ◌+◌, eqb, ltb, set, replicate}
+use Rattle.std.specs.Prelude.{cond, List, [], ◌∷◌, ℕ, eqb}
 use Rattle.station.specs.declared.Call.{Call}
 use Rattle.text.specs.Lines.{line_feed}
-use Rattle.log_book.specs.Whole.{kept_as}
+use Rattle.feeding.specs.Lines.{fresh_line, kept_of, ended_of}
+use Rattle.session.specs.Steps.{kept_as}
 use Rattle.recorder.specs.Recording.{fresh_recorder}
 use Rattle.recorder.specs.Laws.{recorded_from, room_from}
 use Rattle.log_book.specs.declared.Logbook.{Logbook}
@@ -10,24 +11,22 @@ use Rattle.log_book.specs.Whole.{calls_by}
 
 -- before any byte
 abbrev pub fresh_logbook : Logbook
-fresh_logbook = record { recorder = fresh_recorder; kept = replicate 32 0; count = 0 }
+fresh_logbook = record { recorder = fresh_recorder; line = fresh_line }
 
 -- the call of the line kept so far, were it at its end
 abbrev pub asked : Logbook → List Call
-asked s = calls_by (kept_as s.kept s.count)
+asked s = calls_by (kept_as s.line)
 
 -- a line feed: the line's call is noted, and the next one begins
 abbrev pub ended : Logbook → Logbook
-ended s = record { recorder = recorded_from s.recorder (asked s); kept = s.kept; count = 0 }
+ended s = record { recorder = recorded_from s.recorder (asked s); line = ended_of s.line }
 
 abbrev pub room_ended : Logbook → List ℕ → List ℕ
 room_ended s room = room_from s.recorder (asked s) room
 
--- any other byte is kept, the first 32 of a line; of a longer one only that it is longer
+-- any other byte is one more of the line
 abbrev pub keeping : Logbook → ℕ → Logbook
-keeping s b =
-    cond (ltb s.count 32) (record { recorder = s.recorder; kept = set s.kept s.count b; count = s.count + 1 })
-    (record { recorder = s.recorder; kept = s.kept; count = 33 })
+keeping s b = record { recorder = s.recorder; line = kept_of s.line b }
 
 -- one byte
 unfoldable pub step_of : Logbook → ℕ → Logbook
@@ -47,7 +46,7 @@ room_fed s (b ∷ bs) room = room_fed (step_of s b) bs (room_step s b room)
 
 -- at the end of the input a line that has a byte is noted as if it had its line feed
 abbrev pub finish_of : Logbook → Logbook
-finish_of s = cond (eqb s.count 0) s (ended s)
+finish_of s = cond (eqb s.line.count 0) s (ended s)
 
 abbrev pub room_finished : Logbook → List ℕ → List ℕ
-room_finished s room = cond (eqb s.count 0) room (room_ended s room)
+room_finished s room = cond (eqb s.line.count 0) room (room_ended s room)

@@ -2,13 +2,7 @@
 use Rattle.std.specs.Prelude.{List, [], ◌∷◌, ◌++◌, ℕ, Option, None, Some}
 use Rattle.station.specs.declared.Call.{Call}
 use Rattle.text.specs.Input.{lines_of}
-use Rattle.text.specs.Keeping.{kept_by}
-use Rattle.lines.specs.Reading.{read_call}
 use Rattle.session.specs.Whole.{heard_as}
-
--- what the bytes kept of a line ask for, were it at its end; a count above 32 says that it is too long
-abbrev pub kept_as : List ℕ → ℕ → Option Call
-kept_as kept count = kept_by read_call kept count
 
 -- a line that is no command is no call
 abbrev pub calls_by : Option Call → List Call

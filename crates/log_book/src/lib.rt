@@ -6,15 +6,15 @@ mod hearing;
 ghost use Rattle.std.specs.Prelude.{◌≡◌};
 ghost use Rattle.log_book.specs.Steps.{fresh_logbook, fed_of, room_fed, finish_of, room_finished};
 
+use feeding::Line;
 use hearing::hear;
 use recorder::Recorder;
 
-// The log so far, and the bytes of the line that is not at its end yet: count of them, or 33 for more than 32.
+// The log so far, and the line that is not at its end yet.
 #[derive(Drop)]
 pub struct Logbook {
     pub recorder: Recorder,
-    pub kept: [u8; 32],
-    pub count: usize,
+    pub line: Line,
 }
 
 impl Logbook {
@@ -22,12 +22,9 @@ impl Logbook {
     pub fn fresh() -> Logbook
         ensures { result ≡ fresh_logbook }
     {
-        let recorder = Recorder::fresh();
-        let kept = [0u8; 32];
         Logbook {
-            recorder: recorder,
-            kept: kept,
-            count: 0,
+            recorder: Recorder::fresh(),
+            line: Line::fresh(),
         }
     }
 
@@ -36,31 +33,20 @@ impl Logbook {
         ensures state { result ≡ fed_of self input.now }
         ensures room { events.new ≡ room_fed self input.now events.old }
     {
-        let mut recorder = self.recorder;
-        let mut kept = self.kept;
-        let mut count = self.count;
-        let mut i: usize = 0;
-        while i < input.len() {
-            let b = input[i];
-            let ends = b == b'\n';
+        let Logbook {
+            mut recorder,
+            mut line,
+        } = self;
+        for b in input {
+            let ends = *b == b'\n';
             if ends {
-                recorder = hear(recorder, kept, count, events);
-                count = 0;
+                recorder = hear(recorder, &line, events);
+                line.end();
             } else {
-                if count < 32 {
-                    kept[count] = b;
-                    count += 1;
-                } else {
-                    count = 33;
-                }
+                line.keep(*b);
             }
-            i += 1;
         }
-        Logbook {
-            recorder: recorder,
-            kept: kept,
-            count: count,
-        }
+        Logbook { recorder, line }
     }
 
     // Notes the call of the last line, if it has a byte, at the end of the input.
@@ -68,8 +54,7 @@ impl Logbook {
         ensures state { result ≡ finish_of self }
         ensures room { events.new ≡ room_finished self events.old }
     {
-        let count = self.count;
-        if count == 0 {
+        if self.line.is_empty() {
             return self;
         }
         self.feed(b"\n", events)
