@@ -5,57 +5,54 @@ mod states;
 
 use fair::{Answer, Fair};
 use states::{serving, two_waiting, written};
+use std::io;
 use std::io::Stdout;
 use tags::Flow;
 use units::Tag;
 
 // Writes a blank and a number.
-fn number(mut out: Stdout, n: u64) {
-    streams::put(&mut out, b" ");
-    streams::number(&mut out, n);
+fn number(mut out: Stdout, n: u64) -> io::Result<()> {
+    streams::put(&mut out, b" ")?;
+    streams::number(&mut out, n)
 }
 
 // Writes an answer as a line.
-fn show(mut out: Stdout, answer: Answer) {
+fn show(mut out: Stdout, answer: Answer) -> io::Result<()> {
     match answer {
         Answer::Refused(refusal) => {
-            streams::put(&mut out, b"no");
-            number(out, refusal.number());
+            streams::put(&mut out, b"no")?;
+            number(out, refusal.number())?;
         }
-        Answer::Opened => {
-            streams::put(&mut out, b"ok");
-        }
-        Answer::Closed => {
-            streams::put(&mut out, b"closed");
-        }
+        Answer::Opened => streams::put(&mut out, b"ok")?,
+        Answer::Closed => streams::put(&mut out, b"closed")?,
         Answer::Accepted(n, start, finish) => {
-            streams::put(&mut out, b"ok");
-            number(out, n);
-            number(out, start.0);
-            number(out, finish.0);
+            streams::put(&mut out, b"ok")?;
+            number(out, n)?;
+            number(out, start.0)?;
+            number(out, finish.0)?;
         }
         Answer::Begun(flow, n, length, start) => {
-            streams::put(&mut out, b"begun");
-            number(out, flow);
-            number(out, n);
-            number(out, length);
-            number(out, start.0);
+            streams::put(&mut out, b"begun")?;
+            number(out, flow)?;
+            number(out, n)?;
+            number(out, length)?;
+            number(out, start.0)?;
         }
         Answer::Ended(flow, n, length) => {
-            streams::put(&mut out, b"ended");
-            number(out, flow);
-            number(out, n);
-            number(out, length);
+            streams::put(&mut out, b"ended")?;
+            number(out, flow)?;
+            number(out, n)?;
+            number(out, length)?;
         }
     }
-    streams::put(&mut out, b"\n");
+    streams::put(&mut out, b"\n")
 }
 
 // Opens a flow, writes the answer and hands the lane on.
 fn open(out: Stdout, lane: Fair, flow: u64, weight: u64) -> Fair {
     let done = lane.open(flow, weight);
     let answer = done.answer;
-    show(out, answer);
+    let _ = show(out, answer);
     let after = done.lane;
     after
 }
@@ -64,7 +61,7 @@ fn open(out: Stdout, lane: Fair, flow: u64, weight: u64) -> Fair {
 fn close(out: Stdout, lane: Fair, flow: u64) -> Fair {
     let done = lane.close(flow);
     let answer = done.answer;
-    show(out, answer);
+    let _ = show(out, answer);
     let after = done.lane;
     after
 }
@@ -73,7 +70,7 @@ fn close(out: Stdout, lane: Fair, flow: u64) -> Fair {
 fn offer(out: Stdout, lane: Fair, flow: u64, length: u64) -> Fair {
     let done = lane.offer(flow, length);
     let answer = done.answer;
-    show(out, answer);
+    let _ = show(out, answer);
     let after = done.lane;
     after
 }
@@ -93,7 +90,7 @@ fn offers(out: Stdout, lane: Fair, flow: u64, times: u64) -> Fair {
 fn begin(out: Stdout, lane: Fair) -> Fair {
     let done = lane.begin();
     let answer = done.answer;
-    show(out, answer);
+    let _ = show(out, answer);
     let after = done.lane;
     after
 }
@@ -102,15 +99,15 @@ fn begin(out: Stdout, lane: Fair) -> Fair {
 fn end(out: Stdout, lane: Fair) -> Fair {
     let done = lane.end();
     let answer = done.answer;
-    show(out, answer);
+    let _ = show(out, answer);
     let after = done.lane;
     after
 }
 
 // Writes a heading.
 fn case(mut out: Stdout, name: &[u8]) {
-    streams::put(&mut out, name);
-    streams::put(&mut out, b"\n");
+    let _ = streams::put(&mut out, name);
+    let _ = streams::put(&mut out, b"\n");
 }
 
 // The cases worked by hand.

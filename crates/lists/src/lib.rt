@@ -10,6 +10,7 @@ ghost use Rattle.text.specs.Feeding.{FeedsBy};
 ghost use Rattle.lists.specs.Printing.{longest};
 ghost use Rattle.lists.specs.Steps.{fresh_reading, step_of, finish_of};
 
+use feeding::Fed;
 use judging::print;
 use link::Declaration;
 use taking::Hand;
@@ -23,57 +24,45 @@ pub struct Reading {
     pub items: [Declaration; 17],
 }
 
-// The reading after a piece of input, how many bytes of the input it took, and how many bytes of output it wrote.
-#[derive(Drop)]
-pub struct Fed {
-    pub reading: Reading,
-    pub read: usize,
-    pub written: usize,
-}
-
 impl Reading {
     // Nothing read yet.
     pub fn fresh() -> Reading
         ensures { result ≡ fresh_reading }
     {
-        let items = [Declaration {
-            burst: 0,
-            period: 0,
-            deadline: 0,
-        }; 17];
-        let hand = Hand::fresh();
         Reading {
-            hand: hand,
+            hand: Hand::fresh(),
             count: 0,
-            items: items,
+            items: [Declaration {
+                burst: 0,
+                period: 0,
+                deadline: 0,
+            }; 17],
         }
     }
 
     // Takes as much of the input as out has room for, and writes the verdicts on its lines at the start of out.
-    pub fn feed(self, input: &[u8], out: &mut [u8]) -> Fed
-        ensures { FeedsBy step_of longest self input.now out.old out.new result.reading result.read result.written }
+    pub fn feed(self, input: &[u8], out: &mut [u8]) -> Fed<Reading>
+        ensures { FeedsBy step_of longest self input.now out.old out.new result.state result.read result.written }
     {
         let mut reading = self;
-        let mut i: usize = 0;
-        let mut w: usize = 0;
-        while i < input.len() {
-            if out.len() - w < 96 {
+        let mut read = 0;
+        let mut written = 0;
+        for b in input {
+            if out.len() - written < 96 {
                 break;
             }
-            let b = input[i];
-            if b == b'\n' {
-                let verdict = reading.judged();
-                w = print(verdict, out, w);
+            if *b == b'\n' {
+                written = print(reading.judged(), out, written);
                 reading = Reading::fresh();
             } else {
-                reading = reading.keeping(b);
+                reading = reading.keeping(*b);
             }
-            i += 1;
+            read += 1;
         }
         Fed {
-            reading: reading,
-            read: i,
-            written: w,
+            state: reading,
+            read,
+            written,
         }
     }
 
@@ -81,11 +70,9 @@ impl Reading {
     pub fn finish(self, out: &mut [u8; 96]) -> usize
         ensures { Printed (finish_of self) out.old out.new result }
     {
-        let hand = self.hand;
-        if !hand.some {
+        if !self.hand.some {
             return 0;
         }
-        let fed = self.feed(b"\n", out);
-        fed.written
+        self.feed(b"\n", out).written
     }
 }

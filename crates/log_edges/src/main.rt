@@ -64,7 +64,7 @@ fn cases(rt: &HostRuntime, bytes: &mut [u8]) {
 // Tells that a case is not answered.
 fn tell(rt: &HostRuntime) {
     let mut error = rt.stderr();
-    streams::put(&mut error, b"log_edges: a case is not answered\n");
+    let _ = streams::put(&mut error, b"log_edges: a case is not answered\n");
 }
 
 // Answers the case that a byte tells, with bytes lent for its log or its numbers; nothing where it could not.

@@ -21,5 +21,5 @@ pub(crate) fn counted(rt: &HostRuntime, word: &[u8], bytes: &[u8]) -> Option<()>
 // Writes bytes as they are.
 fn raw(rt: &HostRuntime, bytes: &[u8]) -> Option<()> {
     let mut output = rt.stdout();
-    streams::put(&mut output, bytes).then_some(())
+    streams::put(&mut output, bytes).ok()
 }

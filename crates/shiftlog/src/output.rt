@@ -4,11 +4,11 @@ pub(crate) fn answer(rt: &HostRuntime, bytes: &[u8]) -> bool {
     let mut output = rt.stdout();
     let mut error = rt.stderr();
     let line = b"shiftlog: the output could not be written\n";
-    streams::put_or_tell(&mut output, bytes, &mut error, line)
+    streams::put_or_tell(&mut output, bytes, &mut error, line).is_ok()
 }
 
 // Tells a line on standard error.
 pub(crate) fn tell(rt: &HostRuntime, line: &[u8]) {
     let mut error = rt.stderr();
-    streams::put(&mut error, line);
+    let _ = streams::put(&mut error, line);
 }

@@ -6,11 +6,11 @@ use std::test::Fail;
 fn reads_pieces(rt: HostRuntime) -> Result<(), Fail> {
     let mut input: &[u8] = b"abcd";
     let mut room = [0u8; 3];
-    assert_eq!(rt; piece(&mut input, &mut room), Some(3));
+    assert_eq!(rt; piece(&mut input, &mut room)?, 3);
     assert_eq!(rt; room.as_slice(), b"abc".as_slice());
     assert_eq!(rt; fill(&mut input, &mut room), 1);
     assert_eq!(rt; room.as_slice(), b"dbc".as_slice());
-    assert_eq!(rt; piece(&mut input, &mut room), Some(0));
+    assert_eq!(rt; piece(&mut input, &mut room)?, 0);
     Ok(())
 }
 
@@ -20,11 +20,11 @@ fn writes_and_tells(rt: HostRuntime) -> Result<(), Fail> {
     let mut told = Vec::new(rt.alloc());
     {
         let mut out: &mut [u8] = &mut bytes;
-        assert!(rt; put_or_tell(&mut out, b"no ", &mut told, b"unwritten\n"));
-        assert!(rt; number(&mut out, 27));
-        assert!(rt; !put_or_tell(&mut out, b"\nok", &mut told, b"unwritten\n"));
+        put_or_tell(&mut out, b"no ", &mut told, b"unwritten\n")?;
+        number(&mut out, 27)?;
+        assert!(rt; put_or_tell(&mut out, b"\nok", &mut told, b"unwritten\n").is_err());
     }
-    assert!(rt; put(&mut told, b"."));
+    put(&mut told, b".")?;
     assert_eq!(rt; bytes.as_slice(), b"no 27\n".as_slice());
     assert_eq!(rt; told.as_slice(), b"unwritten\n.".as_slice());
     Ok(())

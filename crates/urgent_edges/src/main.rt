@@ -1,54 +1,51 @@
 // Runs the urgent lane on the worked cases, on bad numbers, and on states written out that no session can reach.
 #![tactic(auto)]
 
+use std::io;
 use std::io::Stdout;
 use units::Slot;
 use urgent::{Answer, Cell, Flow, Urgent};
 
 // Writes a blank and a number.
-fn number(mut out: Stdout, n: u64) {
-    streams::put(&mut out, b" ");
-    streams::number(&mut out, n);
+fn number(mut out: Stdout, n: u64) -> io::Result<()> {
+    streams::put(&mut out, b" ")?;
+    streams::number(&mut out, n)
 }
 
 // Writes an answer as a line.
-fn show(mut out: Stdout, answer: Answer) {
+fn show(mut out: Stdout, answer: Answer) -> io::Result<()> {
     match answer {
         Answer::Refused(refusal) => {
-            streams::put(&mut out, b"no");
-            number(out, refusal.number());
+            streams::put(&mut out, b"no")?;
+            number(out, refusal.number())?;
         }
-        Answer::Opened => {
-            streams::put(&mut out, b"ok");
-        }
-        Answer::Closed => {
-            streams::put(&mut out, b"closed");
-        }
+        Answer::Opened => streams::put(&mut out, b"ok")?,
+        Answer::Closed => streams::put(&mut out, b"closed")?,
         Answer::Accepted(n, last) => {
-            streams::put(&mut out, b"ok");
-            number(out, n);
-            number(out, last.0);
+            streams::put(&mut out, b"ok")?;
+            number(out, n)?;
+            number(out, last.0)?;
         }
         Answer::Sent(flow, n, missed) => {
-            streams::put(&mut out, b"sent");
-            number(out, flow);
-            number(out, n);
-            streams::put(&mut out, b" missed");
-            number(out, missed);
+            streams::put(&mut out, b"sent")?;
+            number(out, flow)?;
+            number(out, n)?;
+            streams::put(&mut out, b" missed")?;
+            number(out, missed)?;
         }
         Answer::Idle(missed) => {
-            streams::put(&mut out, b"idle missed");
-            number(out, missed);
+            streams::put(&mut out, b"idle missed")?;
+            number(out, missed)?;
         }
     }
-    streams::put(&mut out, b"\n");
+    streams::put(&mut out, b"\n")
 }
 
 // Each call writes its answer and hands the lane on.
 fn open(out: Stdout, lane: Urgent, flow: u64, deadline: u64) -> Urgent {
     let done = lane.open(flow, deadline);
     let answer = done.answer;
-    show(out, answer);
+    let _ = show(out, answer);
     let after = done.lane;
     after
 }
@@ -56,7 +53,7 @@ fn open(out: Stdout, lane: Urgent, flow: u64, deadline: u64) -> Urgent {
 fn close(out: Stdout, lane: Urgent, flow: u64) -> Urgent {
     let done = lane.close(flow);
     let answer = done.answer;
-    show(out, answer);
+    let _ = show(out, answer);
     let after = done.lane;
     after
 }
@@ -64,7 +61,7 @@ fn close(out: Stdout, lane: Urgent, flow: u64) -> Urgent {
 fn offer(out: Stdout, lane: Urgent, flow: u64, deadline: u64) -> Urgent {
     let done = lane.offer(flow, deadline);
     let answer = done.answer;
-    show(out, answer);
+    let _ = show(out, answer);
     let after = done.lane;
     after
 }
@@ -83,7 +80,7 @@ fn offers(out: Stdout, lane: Urgent, flow: u64, deadline: u64, times: u64) -> Ur
 fn turn(out: Stdout, lane: Urgent, usable: bool) -> Urgent {
     let done = lane.turn(usable);
     let answer = done.answer;
-    show(out, answer);
+    let _ = show(out, answer);
     let after = done.lane;
     after
 }
@@ -119,8 +116,8 @@ fn written(n: u64, deadline: u64, next: u64, first: u64, second: u64) -> Urgent 
 
 // Writes a heading.
 fn case(mut out: Stdout, name: &[u8]) {
-    streams::put(&mut out, name);
-    streams::put(&mut out, b"\n");
+    let _ = streams::put(&mut out, name);
+    let _ = streams::put(&mut out, b"\n");
 }
 
 fn worked(out: Stdout) {

@@ -25,6 +25,6 @@ loop-done-preserved g c =
     let from = c.loop-done.done in
     let room = length c.loop-done.room - from in
     let within = c.loop-done.invariant.1 in
-    let part = slice_range-put_mid from room c.in-Some.n c.loop-done.room c.piece.new.room within c.in-Some.ensures.within.0 in
-    let joined = take_split from (from + c.in-Some.n) c.loop-done.room (put_mid from room c.loop-done.room c.piece.new.room) (omega arith) (take-put_mid_below _ _ _ _ _ (le_refl _) within) in
-    (search rules, search rules, subst (Consumes _ _) (ap (λ l. take from c.loop-done.room ++ l) (sym part) ∙ joined) (Consumes-trans _ _ _ _ _ c.loop-done.invariant.2 c.in-Some.ensures.bytes))
+    let part = slice_range-put_mid from room c.in-Ok.n c.loop-done.room c.piece.new.room within c.in-Ok.ensures.within.0 in
+    let joined = take_split from (from + c.in-Ok.n) c.loop-done.room (put_mid from room c.loop-done.room c.piece.new.room) (omega arith) (take-put_mid_below _ _ _ _ _ (le_refl _) within) in
+    (search rules, search rules, subst (Consumes _ _) (ap (λ l. take from c.loop-done.room ++ l) (sym part) ∙ joined) (Consumes-trans _ _ _ _ _ c.loop-done.invariant.2 c.in-Ok.ensures.bytes))

@@ -9,4 +9,4 @@ use Rattle.lists.proofs.Reading.finish.Goals as goal
 
 pub returns : goal.returns
 returns c =
-    fed_printed step_of longest c.feed-fed.ensures (finish_text c.args.self (not-false c.args.self.hand.some c.if-not-hand.false)) (search rules) (search rules)
+    fed_printed step_of longest c.feed.ensures (finish_text c.args.self (not-false c.args.self.hand.some c.if-not-self.false)) (search rules) (search rules)
