@@ -78,7 +78,8 @@ fn greatest(list: &[Declaration]) -> u64
 }
 
 // Whether no t from 1 to the horizon fails, asked from the last one down; every t from `passed` on has passed. Demand never falls as
-// slots pass: where by t no more than t is due, each t from that demand on passes with it, and need not be asked.
+// slots pass: where by t no more than t is due, each t from that demand on passes with it, and need not be asked;
+// no range counts such steps.
 fn keeps(list: &[Declaration], horizon: u64) -> bool
     requires few { length list.now ≤ 16 }
     requires short { All (λ d. d.burst ≤ 16) list.now }

@@ -6,7 +6,8 @@ use ascent::LONGEST_WAY;
 use tree::Tree;
 use units::LAST_FLOW;
 
-// Whether some finish would pass the largest tag, if a packet of this length of this flow were begun.
+// Whether some finish would pass the largest tag, if a packet of this length of this flow were begun. It changes no tree and ends at the
+// first such finish, so it is no `Way`.
 pub fn passes(tree: &Tree, flow: u64, length: u64) -> bool
     ensures { result ≡ passes_for tree.now flow length }
 {

@@ -9,7 +9,7 @@ use classes::{Answer, Call, Classes};
 use plans::Plan;
 use units::Refusal;
 
-// Whether a tree is set up, what is described of it so far, and the lane.
+// Whether a tree is set up, what is described of it so far, and the lane. The description stays when it is set up: `Answering` speaks of it then.
 #[derive(Drop)]
 pub struct Desk {
     pub ready: bool,

@@ -55,6 +55,7 @@ pub enum Objection {
 }
 
 // How many whole periods have passed after so many slots, none for a period of 0; by doubling and halving: the board has no divider.
+// How often the period is doubled is known only when it no longer goes in twice.
 pub fn floor_of(slots: u64, period: u64) -> u64
     ensures { result ≡ slots / period }
 {
