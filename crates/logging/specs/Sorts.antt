@@ -3,6 +3,8 @@ use Rattle.std.specs.Prelude.{cond, ◌||◌, ℕ}
 use Rattle.units.specs.Limits.{no_such_flow, bad_weight, bad_deadline, bad_length}
 use Rattle.station.specs.declared.Call.{Call}
 use Rattle.station.specs.declared.Call.TheVariants.{OpenUrgent, OpenFair, CloseUrgent, CloseFair, OfferCell, OfferPacket, OpenTurn, LostTurn, Begin, End}
+use Rattle.log_format.specs.declared.records.Kind.{Kind}
+use Rattle.log_format.specs.declared.records.Kind.TheVariants.{OpenTurn as OpenedTurn, LostTurn as TurnLost, Cell, Packet, Begin as Begun, End as Ended}
 use Rattle.log_format.specs.Format.{Event}
 use Rattle.log_format.specs.Words.{event_word}
 use Rattle.logging.specs.declared.Sorted.{Sorted}
@@ -15,6 +17,15 @@ pub data Sort : Type 0 where
   opens_fair : ℕ → ℕ → Sort
   closes : Sort
   happens : Event → Sort
+
+-- the number of an event's kind
+abbrev pub kind_number : Kind → ℕ
+kind_number OpenedTurn = 0
+kind_number TurnLost = 1
+kind_number Cell = 2
+kind_number Packet = 3
+kind_number Begun = 4
+kind_number Ended = 5
 
 abbrev pub event : ℕ → ℕ → ℕ → Event
 event kind flow number = record { kind = kind; flow = flow; number = number }

@@ -8,7 +8,7 @@ pub use listing::listed;
 pub use sorting::sort;
 
 // What a call is to the log: nothing; an opening, with its flow and its deadline or weight; a closing; or an event, with its word.
-#[derive(Clone, Copy)]
+#[derive(Clone, Copy, Debug, PartialEq, Eq)]
 pub enum Sorted {
     Beyond,
     OpensUrgent(usize, u16),
@@ -17,7 +17,8 @@ pub enum Sorted {
     Happens(u32),
 }
 
-// The openings of a lane by rising flow: the first count words are theirs, and the rest are 0.
+// The openings of a lane by rising flow: the first count words are theirs, and the rest are 0. A buffer and its length, since memory is
+// fixed.
 #[derive(Drop)]
 pub struct Openings {
     pub words: [u32; 16],

@@ -12,26 +12,22 @@ pub fn listed(numbers: [u16; 16]) -> Openings
         words: [0; 16],
         count: 0,
     };
-    let mut flow: usize = 0;
-    while flow < 16 {
-        openings = openings.with(flow, numbers[flow]);
-        flow += 1;
+    for (flow, number) in numbers.iter().enumerate() {
+        openings.add(flow, *number);
     }
     openings
 }
 
 impl Openings {
     // One flow more, listed if it was opened.
-    fn with(mut self, flow: usize, number: u16) -> Openings
-        requires { (self.count ≤ flow) × (flow < 16) }
-        ensures { result ≡ with_opening self flow number }
+    fn add(&mut self, flow: usize, number: u16)
+        requires { (self.old.count ≤ flow) × (flow < 16) }
+        ensures { self.new ≡ with_opening self.old flow number }
     {
         if number == 0 {
-            return self;
+            return;
         }
-        let at = self.count;
-        self.words[at] = flow as u32 + 256 * number as u32;
-        self.count = at + 1;
-        self
+        self.words[self.count] = flow as u32 + 256 * u32::from(number);
+        self.count += 1;
     }
 }

@@ -3,13 +3,13 @@
 
 ghost use Rattle.std.specs.Prelude.{◌≡◌, set};
 ghost use Rattle.logging.specs.Logging.{opened_with};
-ghost use Rattle.recorder.specs.Recording.{fresh_recorder, with_deadline, with_weight, counted, note_of, room_noted};
+ghost use Rattle.recorder.specs.Recording.{fresh_recorder, stopped, with_deadline, with_weight, counted, note_of, room_noted};
 
 use logging::Sorted;
 use station::Call;
 
 // The log so far, but for the events' own words: the number with which each flow was opened, 0 where it was not; whether an event
-// has come; whether the log has ended; and how many events it has.
+// has come; whether the log has ended; and how many events it has. 0 stands for none, since Records (specs/Laws) speaks of these fields.
 #[derive(Drop)]
 pub struct Recorder {
     pub deadlines: [u16; 16],
@@ -34,22 +34,18 @@ impl Recorder {
     }
 
     // The log with one call more. The word of its event goes into the room at the event's index, if the room has one there.
-    pub fn note(mut self, call: Call, room: &mut [u32]) -> Recorder
+    pub fn note(self, call: Call, room: &mut [u32]) -> Recorder
         ensures state { result ≡ note_of self call }
         ensures room { room.new ≡ room_noted self call room.old }
     {
         if self.ended {
             return self;
         }
-        let sorted = logging::sort(call);
-        match sorted {
+        match logging::sort(call) {
             Sorted::Beyond => self,
             Sorted::OpensUrgent(flow, deadline) => self.open_urgent(flow, deadline),
             Sorted::OpensFair(flow, weight) => self.open_fair(flow, weight),
-            Sorted::Closes => {
-                self.ended = true;
-                self
-            }
+            Sorted::Closes => self.end(),
             Sorted::Happens(word) => {
                 put(room, self.events, word);
                 self.count()
@@ -58,42 +54,50 @@ impl Recorder {
     }
 
     // An opening of the urgent lane counts before the first event, and ends the log after it.
-    fn open_urgent(mut self, flow: usize, deadline: u16) -> Recorder
+    fn open_urgent(self, flow: usize, deadline: u16) -> Recorder
         ensures { result ≡ with_deadline self flow deadline }
     {
         if self.begun {
-            self.ended = true;
-            return self;
+            return self.end();
         }
-        let deadlines = self.deadlines;
-        let with = opened(deadlines, flow, deadline);
-        self.deadlines = with;
-        self
+        Recorder {
+            deadlines: opened(self.deadlines, flow, deadline),
+            ..self
+        }
     }
 
     // An opening of the fair lane likewise.
-    fn open_fair(mut self, flow: usize, weight: u16) -> Recorder
+    fn open_fair(self, flow: usize, weight: u16) -> Recorder
         ensures { result ≡ with_weight self flow weight }
     {
         if self.begun {
-            self.ended = true;
-            return self;
+            return self.end();
         }
-        let weights = self.weights;
-        let with = opened(weights, flow, weight);
-        self.weights = with;
-        self
+        Recorder {
+            weights: opened(self.weights, flow, weight),
+            ..self
+        }
+    }
+
+    // The log ends.
+    fn end(self) -> Recorder
+        ensures { result ≡ stopped self }
+    {
+        Recorder {
+            ended: true,
+            ..self
+        }
     }
 
     // One event more, up to the greatest count.
-    fn count(mut self) -> Recorder
+    fn count(self) -> Recorder
         ensures { result ≡ counted self }
     {
-        self.begun = true;
-        if self.events < 18_446_744_073_709_551_615 {
-            self.events += 1;
+        Recorder {
+            begun: true,
+            events: self.events.saturating_add(1),
+            ..self
         }
-        self
     }
 }
 
@@ -101,13 +105,9 @@ impl Recorder {
 fn opened(mut numbers: [u16; 16], flow: usize, number: u16) -> [u16; 16]
     ensures { result ≡ opened_with numbers flow number }
 {
-    if 15 < flow {
-        return numbers;
+    if flow < numbers.len() && numbers[flow] == 0 {
+        numbers[flow] = number;
     }
-    if 0 < numbers[flow] {
-        return numbers;
-    }
-    numbers[flow] = number;
     numbers
 }
 

@@ -1,10 +1,7 @@
--- `listed` meets its contract. The invariant: the openings of the flows passed are listed. The measure is the flows left.
-use Rattle.std.proofs.Common.{◌≡◌, ◌-◌, ◌≤◌, take}
+-- `listed` meets its contract. The invariant: the openings of the flows passed are listed.
+use Rattle.std.proofs.Common.{◌≡◌, take}
 use Rattle.logging.specs.Listing.{openings_of}
 use Rattle.logging.proofs.listing.listed.Given as goal
 
 abbrev pub invariant-loop-flow : goal.invariant-loop-flow
-invariant-loop-flow l = (l.flow ≤ 16) × (l.openings ≡ openings_of (take l.flow l.numbers))
-
-abbrev pub decreases-loop-flow : goal.decreases-loop-flow
-decreases-loop-flow l = 16 - l.flow
+invariant-loop-flow l = l.openings ≡ openings_of (take l.flow l.number-items)
