@@ -14,8 +14,7 @@ use Rattle.tags.specs.declared.Packet.{Packet}
 use Rattle.tags.specs.Grounds.{opening_grounds}
 use Rattle.packets.specs.declared.Answer.{Answer as QueueAnswer}
 use Rattle.packets.specs.declared.Answer.TheVariants.{Refused as RefusedIn, Opened as OpenedIn, Closed as ClosedIn, Accepted, Begun as BegunIn, Ended as EndedIn}
-use Rattle.packets.specs.declared.Flows.{Flows}
-use Rattle.packets.specs.declared.Kept.{Kept}
+use Rattle.packets.specs.Kept.{Kept, Flows}
 use Rattle.packets.specs.declared.Queue.{Queue}
 use Rattle.packets.specs.Answers.{refusal_in}
 use Rattle.packets.specs.Queue.{flow_at, end_grounds}

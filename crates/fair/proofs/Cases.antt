@@ -8,12 +8,11 @@ use Rattle.units.specs.declared.Refusal.{Refusal}
 use Rattle.places.specs.Choice.{at}
 use Rattle.tags.specs.declared.Packet.{Packet}
 use Rattle.tags.specs.Tags.{finish_at}
-use Rattle.packets.specs.declared.Flows.{Flows}
-use Rattle.packets.specs.declared.Kept.{Kept}
+use Rattle.packets.specs.Kept.{Kept, Flows}
 use Rattle.packets.specs.Queue.{flow_at, waiting_of, busy_with, by_start, chosen_by}
 use Rattle.packets.specs.Quotes.{quote_of}
 use Rattle.packets.specs.Calls.{opened, closed, placed, begun as begun_in, ended}
-use Rattle.packets.proofs.Quotes.{fitting, fits_told}
+use Rattle.packets.proofs.Quotes.{fitting, quote_told}
 use Rattle.packets.proofs.Cases.{open_cases as flows-open, close_cases as flows-close, put_cases, begin_cases as queue_begin, end_cases as queue_end}
 use Rattle.fair.specs.declared.Fair.{Fair}
 use Rattle.fair.specs.declared.Done.{Done}
@@ -33,7 +32,7 @@ module _ (u : Fair) (P : Done → Type 0) (no_way : (r : Refusal) → P (refused
   unfolding close_of
   close_cases flow ok = flows-close u.queue (λ (d : Flows). P (by_flows u d)) no_way flow ok
 
-  -- an accepted packet has the tags of a quote that fits
+  -- an accepted packet has the tags of its quote
   pub offer_cases : (flow length : ℕ)
       → (flow ≤ 15 → (flow_at u.queue flow).opened ≡ true → bad_length length ≡ false → waiting_of u.queue flow < 16
       → finish_at (start_of u flow) length (flow_at u.queue flow).weight ≤ tag_limit → (flow_at u.queue flow).next ≤ tag_limit
@@ -43,8 +42,8 @@ module _ (u : Fair) (P : Done → Type 0) (no_way : (r : Refusal) → P (refused
   offer_cases flow length ok =
       let was = flow_at u.queue flow in
       put_cases u.queue (λ (d : Kept). P (by_queue u u.time u.largest d)) no_way flow length (quote_of was u.time length)
-      (λ low o good room fits.
-      let t = fits_told was u.time length good fits in
+      (λ low o good room x e.
+      let t = quote_told was u.time length good x e in
       rw t.2 (ok low o good room (ltb-false _ _ t.0) (ltb-false _ _ t.1)))
 
   pub begin_cases : (u.queue.service.busy ≡ false → (place : ℕ) (p : Packet) → chosen_by by_start u.queue ≡ at place p

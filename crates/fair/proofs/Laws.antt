@@ -3,7 +3,7 @@ use mathlib.Core.Path.{◌≡◌, refl, sym, ◌∙◌}
 use Prim.Native.Nat.{ℕ}
 use native.Mathlib.Omega.{arith}
 use Rattle.units.specs.declared.Tag.{Tag}
-use Rattle.packets.specs.declared.Kept.{Kept}
+use Rattle.packets.specs.Kept.{Kept}
 use Rattle.packets.specs.declared.Answer.TheVariants.{Begun}
 use Rattle.packets.specs.Queue.{by_start}
 use Rattle.packets.specs.Calls.{begin_by}

@@ -4,8 +4,7 @@ use Rattle.std.proofs.Common.{Option, Some}
 use Rattle.units.specs.declared.Refusal.{Refusal}
 use Rattle.units.specs.declared.Tag.{Tag}
 use Rattle.units.proofs.Refusals.{passed_first, passed_same}
-use Rattle.packets.specs.declared.Flows.{Flows}
-use Rattle.packets.specs.declared.Kept.{Kept}
+use Rattle.packets.specs.Kept.{Kept, Flows}
 use Rattle.packets.specs.Answers.{refusal_in, start_told}
 use Rattle.packets.specs.Queue.{flow_at, by_start}
 use Rattle.packets.specs.Quotes.{quote_of}

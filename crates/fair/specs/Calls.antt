@@ -3,8 +3,7 @@ use Rattle.std.specs.Prelude.{cond, ℕ, eqb}
 use Rattle.units.specs.Refusals.{unless}
 use Rattle.units.specs.declared.Refusal.{Refusal}
 use Rattle.units.specs.declared.Tag.{Tag}
-use Rattle.packets.specs.declared.Flows.{Flows}
-use Rattle.packets.specs.declared.Kept.{Kept}
+use Rattle.packets.specs.Kept.{Kept, Flows}
 use Rattle.packets.specs.declared.Answer.TheVariants.{Refused}
 use Rattle.packets.specs.Answers.{refusal_in, start_told}
 use Rattle.packets.specs.Queue.{flow_at, waiting, by_start}

@@ -2,7 +2,7 @@
 -- its flow's node does; the node's finish is then worked out from the same start, length and weight as the packet's was.
 use mathlib.Core.Path.{◌≡◌, refl, sym, ap, ◌∙◌, subst}
 use mathlib.Core.Bool.{Bool, true, false, cond, ◌||◌, true≢false}
-use Rattle.std.proofs.Common.{None, Some}
+use Rattle.std.proofs.Common.{None, Some, Option}
 use Prim.Native.Nat.{ℕ, suc, ◌+◌, ◌*◌, ◌<◌}
 use native.Mathlib.Omega.{arith}
 use borrow.Author.Tests.{eqb-true, eq-eqb, ne_eqb, lt-leb}
@@ -20,10 +20,9 @@ use Rattle.places.proofs.Least.{none_held, some_held}
 use Rattle.places.proofs.Members.{some_both, some_gives}
 use Rattle.places.proofs.Tests.{eqb_self, neither_told}
 use Rattle.tags.specs.declared.Packet.{Packet as Place}
-use Rattle.tags.specs.declared.Finish.TheVariants.{At, Beyond}
 use Rattle.tags.specs.Tags.{free_packet, is_held, finish_at, finish_of}
 use Rattle.tags.proofs.Tags.{tag_same}
-use Rattle.packets.specs.declared.Kept.{Kept}
+use Rattle.packets.specs.Kept.{Kept}
 use Rattle.packets.specs.Queue.{flow_at, waiting_of, waiting, by_start, key_by, chosen_by}
 use Rattle.packets.specs.Calls.{refused as refused_in, begun as begun_in, begin_by}
 use Rattle.fair.specs.declared.Fair.{Fair}
@@ -63,8 +62,8 @@ finish_reached : (last start : Tag) (length weight : ℕ) → is_beyond (finish_
 unfolding finish_of
 finish_reached last start length weight = go (bad_length length || ltb tag_limit (finish_at start length weight))
   where
-    go : (b : Bool) → is_beyond (cond b Beyond (At (record { 0 = finish_at start length weight }))) ≡ false
-        → (reached last (cond b Beyond (At (record { 0 = finish_at start length weight })))).0 ≡ finish_at start length weight
+    go : (b : Bool) → is_beyond (cond b None (Some (record { 0 = finish_at start length weight }))) ≡ false
+        → (reached last (cond b None (Some (record { 0 = finish_at start length weight })))).0 ≡ finish_at start length weight
     go true e = absurd (true≢false e)
     go false e = refl
 

@@ -22,7 +22,7 @@ use Rattle.tags.specs.Tags.{is_held, shut_flow, later_of}
 use Rattle.tags.specs.Grounds.{waiting_grounds}
 use Rattle.tags.proofs.Tags.{tag_same}
 use Rattle.packets.specs.declared.Quote.{Quote}
-use Rattle.packets.specs.declared.Kept.{Kept}
+use Rattle.packets.specs.Kept.{Kept}
 use Rattle.packets.specs.Answers.{refusal_in as fair_refusal}
 use Rattle.packets.specs.Queue.{flow_at, waiting_of, waiting}
 use Rattle.packets.specs.Quotes.{quote_of}

@@ -1,12 +1,13 @@
 -- What holds of each way that a call can go holds of what the call gives.
 use mathlib.Core.Path.{◌≡◌, refl}
 use mathlib.Core.Bool.{true, false}
+use Rattle.std.proofs.Common.{Option, None, Some}
 use Prim.Native.Nat.{ℕ, ◌≤◌, ◌<◌}
 use borrow.Author.Tests.{ltb-false, leb-false, not-false}
 use lib.Dec.{ltb}
 use Rattle.units.specs.Limits.{bad_weight, bad_length}
 use Rattle.units.specs.declared.Refusal.{Refusal}
-use Rattle.units.specs.declared.Refusal.TheVariants.{NothingWaits}
+use Rattle.units.specs.declared.Refusal.TheVariants.{TagsUsedUp, NothingWaits}
 use Rattle.units.proofs.Refusals.{first_cases}
 use Rattle.places.specs.Choice.{Choice, nothing, at}
 use Rattle.places.proofs.Tests.{neither_told}
@@ -14,10 +15,9 @@ use Rattle.tags.specs.declared.Packet.{Packet}
 use Rattle.tags.specs.Grounds.{opening_grounds, closing_grounds}
 use Rattle.packets.specs.declared.Queue.{Queue}
 use Rattle.packets.specs.declared.Quote.{Quote}
-use Rattle.packets.specs.declared.Flows.{Flows}
-use Rattle.packets.specs.declared.Kept.{Kept}
+use Rattle.packets.specs.Kept.{Kept, Flows}
 use Rattle.packets.specs.Queue.{flow_at, waiting_of, busy_with, Rank, chosen_by, begin_grounds, end_grounds}
-use Rattle.packets.specs.Calls.{refused_flows, refused, opened, open_of, closed, close_of, placed, put_grounds, put_of, begun, begin_by, ended, end_of}
+use Rattle.packets.specs.Calls.{refused_flows, refused, opened, open_of, closed, close_of, placed, placed_by, put_grounds, put_of, begun, begin_by, ended, end_of}
 
 -- the calls that change flows alone
 module _ (q : Queue) (P : Flows → Type 0) (no_way : (r : Refusal) → P (refused_flows q r)) where
@@ -36,14 +36,18 @@ module _ (q : Queue) (P : Flows → Type 0) (no_way : (r : Refusal) → P (refus
 
 -- the calls that change the queue
 module _ (q : Queue) (P : Kept → Type 0) (no_way : (r : Refusal) → P (refused q r)) where
-  pub put_cases : (flow length : ℕ) (quote : Quote)
-      → (flow ≤ 15 → (flow_at q flow).opened ≡ true → bad_length length ≡ false → waiting_of q flow < 16 → quote.fits ≡ true → P (placed q flow length quote))
+  pub put_cases : (flow length : ℕ) (quote : Option Quote)
+      → (flow ≤ 15 → (flow_at q flow).opened ≡ true → bad_length length ≡ false → waiting_of q flow < 16
+      → (x : Quote) → quote ≡ Some x → P (placed q flow length x))
       → P (put_of q flow length quote)
   unfolding put_of
   put_cases flow length quote ok =
-      first_cases (refused q) P no_way (put_grounds q flow length quote) (placed q flow length quote)
-      (λ h. ok (ltb-false 15 flow h.0) (not-false (flow_at q flow).opened h.1.0) h.1.1.0 (leb-false 16 (waiting_of q flow) h.1.1.1.0)
-      (not-false quote.fits h.1.1.1.1.0))
+      first_cases (refused q) P no_way (put_grounds q flow length quote) (placed_by q flow length quote)
+      (λ h. go (ok (ltb-false 15 flow h.0) (not-false (flow_at q flow).opened h.1.0) h.1.1.0 (leb-false 16 (waiting_of q flow) h.1.1.1.0)) quote refl)
+    where
+      go : ((x : Quote) → quote ≡ Some x → P (placed q flow length x)) → (o : Option Quote) → quote ≡ o → P (placed_by q flow length o)
+      go k None e = no_way TagsUsedUp
+      go k (Some x) e = k x e
 
   pub begin_cases : (rank : Rank) → (q.service.busy ≡ false → (place : ℕ) (p : Packet) → chosen_by rank q ≡ at place p → P (begun q (at place p)))
       → P (begin_by rank q)

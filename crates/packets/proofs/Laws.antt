@@ -11,7 +11,7 @@ use Rattle.places.specs.Choice.{Choice, nothing, at, Leads}
 use Rattle.places.proofs.Least.{leads}
 use Rattle.tags.specs.declared.Packet.{Packet}
 use Rattle.tags.specs.Tags.{free_packet, is_held}
-use Rattle.packets.specs.declared.Kept.{Kept}
+use Rattle.packets.specs.Kept.{Kept}
 use Rattle.packets.specs.declared.Answer.TheVariants.{Begun}
 use Rattle.packets.specs.Queue.{key_by, waiting, chosen_by}
 use Rattle.packets.specs.Calls.{refused, begun, begin_by}

@@ -1,5 +1,5 @@
 -- What each call of a queue of packets gives, over every state.
-use Rattle.std.specs.Prelude.{true, false, not, List, [], ◌∷◌, ◌++◌, ℕ, ◌+◌, ◌*◌, ◌%◌, ◌^◌, set}
+use Rattle.std.specs.Prelude.{true, false, Option, None, Some, is_none, List, [], ◌∷◌, ◌++◌, ℕ, ◌+◌, ◌*◌, ◌%◌, ◌^◌, set}
 use Rattle.units.specs.Limits.{place_count}
 use Rattle.units.specs.Refusals.{Ground, first_of, unless}
 use Rattle.units.specs.declared.Refusal.{Refusal}
@@ -12,8 +12,7 @@ use Rattle.tags.specs.Tags.{free_packet, is_held}
 use Rattle.tags.specs.Grounds.{opening_grounds, closing_grounds, waiting_grounds}
 use Rattle.packets.specs.declared.Queue.{Queue}
 use Rattle.packets.specs.declared.Quote.{Quote}
-use Rattle.packets.specs.declared.Flows.{Flows}
-use Rattle.packets.specs.declared.Kept.{Kept}
+use Rattle.packets.specs.Kept.{Kept, Flows}
 use Rattle.packets.specs.declared.Answer.{Answer}
 use Rattle.packets.specs.declared.Answer.TheVariants.{Refused, Opened, Closed, Accepted, Begun, Ended}
 use Rattle.packets.specs.Queue.{idle, flow_at, waiting_of, busy_with, Rank, chosen_by, begin_grounds, end_grounds}
@@ -71,13 +70,18 @@ placed q flow length quote =
       answer = Accepted (flow_at q flow).next quote.start quote.finish;
     }
 
--- the refusals of a packet that is put: what needs no tag, then a quote that does not fit
-abbrev pub put_grounds : Queue → ℕ → ℕ → Quote → List Ground
-put_grounds q flow length quote = waiting_grounds flow (flow_at q flow) (waiting_of q flow) length ++ (TagsUsedUp, not quote.fits) ∷ []
+-- the refusals of a packet that is put: what needs no tag, then that it is quoted none
+abbrev pub put_grounds : Queue → ℕ → ℕ → Option Quote → List Ground
+put_grounds q flow length quote = waiting_grounds flow (flow_at q flow) (waiting_of q flow) length ++ (TagsUsedUp, is_none quote) ∷ []
+
+-- a packet is put by its quote, if it has one
+abbrev pub placed_by : Queue → ℕ → ℕ → Option Quote → Kept
+placed_by q flow length None = refused q TagsUsedUp
+placed_by q flow length (Some quote) = placed q flow length quote
 
 -- what putting a packet of a length gives
-unfoldable pub put_of : Queue → ℕ → ℕ → Quote → Kept
-put_of q flow length quote = unless (refused q) (first_of (put_grounds q flow length quote)) (placed q flow length quote)
+unfoldable pub put_of : Queue → ℕ → ℕ → Option Quote → Kept
+put_of q flow length quote = unless (refused q) (first_of (put_grounds q flow length quote)) (placed_by q flow length quote)
 
 -- begin: the packet that goes first leaves its place for the service
 abbrev pub begun : Queue → Choice Packet → Kept

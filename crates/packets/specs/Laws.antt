@@ -1,5 +1,5 @@
 -- What holds of a queue's definitions in every state.
-use Rattle.std.specs.Prelude.{◌≡◌, true, false, ℕ, ◌<◌, length}
+use Rattle.std.specs.Prelude.{◌≡◌, Option, true, false, ℕ, ◌<◌, length}
 use Rattle.units.specs.Limits.{place_count}
 use Rattle.units.specs.Refusals.{first_of}
 use Rattle.units.specs.declared.Tag.{Tag}
@@ -41,6 +41,6 @@ pub record RefusedFirst (q : Queue) : Type 0 where
   pub closing :
       (flow : ℕ)
       → refusal_in (close_of q flow).answer ≡ first_of (closing_grounds flow (flow_at q flow) (waiting_of q flow) (busy_with q.service flow))
-  pub putting : (flow length : ℕ) (quote : Quote) → refusal_in (put_of q flow length quote).answer ≡ first_of (put_grounds q flow length quote)
+  pub putting : (flow length : ℕ) (quote : Option Quote) → refusal_in (put_of q flow length quote).answer ≡ first_of (put_grounds q flow length quote)
   pub beginning : (rank : Rank) → refusal_in (begin_by rank q).answer ≡ first_of (begin_grounds q)
   pub ending : refusal_in (end_of q).answer ≡ first_of (end_grounds q)

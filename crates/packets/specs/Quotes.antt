@@ -1,10 +1,8 @@
 -- The tags that a packet would get where it is offered.
-use Rattle.std.specs.Prelude.{true, false, cond, ℕ, ltb}
+use Rattle.std.specs.Prelude.{true, false, cond, ℕ, ltb, Option, None, Some}
 use Rattle.units.specs.Limits.{tag_limit}
 use Rattle.units.specs.declared.Tag.{Tag}
 use Rattle.tags.specs.declared.Flow.{Flow}
-use Rattle.tags.specs.declared.Finish.{Finish}
-use Rattle.tags.specs.declared.Finish.TheVariants.{At, Beyond}
 use Rattle.tags.specs.Tags.{later_of, finish_of}
 use Rattle.packets.specs.declared.Quote.{Quote}
 
@@ -12,12 +10,12 @@ use Rattle.packets.specs.declared.Quote.{Quote}
 abbrev pub start_after : Flow → Tag → Tag
 start_after was time = later_of time was.finish
 
--- the quote of a packet by its start and its finish; one that has no finish does not fit
-abbrev pub quoted : Tag → Finish → Quote
-quoted start (At finish) = record { fits = true; start = start; finish = finish }
-quoted start Beyond = record { fits = false; start = start; finish = start }
+-- the quote of a packet by its start and its finish, which it may not have
+abbrev pub quoted : Tag → Option Tag → Option Quote
+quoted start None = None
+quoted start (Some finish) = Some (record { start = start; finish = finish })
 
--- what a packet of this length is quoted; none fits where the flow's next number passes the largest tag
-unfoldable pub quote_of : Flow → Tag → ℕ → Quote
+-- what a packet of this length is quoted: nothing where the flow's next number passes the largest tag
+unfoldable pub quote_of : Flow → Tag → ℕ → Option Quote
 quote_of was time length =
-    quoted (start_after was time) (cond (ltb tag_limit was.next) Beyond (finish_of (start_after was time) length was.weight))
+    quoted (start_after was time) (cond (ltb tag_limit was.next) None (finish_of (start_after was time) length was.weight))

@@ -1,20 +1,25 @@
 // A queue of packets, as every lane of packets keeps one: the packet in service, sixteen flows, and sixteen places for each of them.
 #![tactic(auto)]
 
-mod choosing;
 mod quoting;
+mod ranking;
 
-ghost use Rattle.std.specs.Prelude.{◌≡◌, ◌≤◌};
+ghost use Rattle.std.specs.Prelude.{◌≡◌, ◌<◌, [], set};
+ghost use Rattle.units.specs.Limits.{place_count};
+ghost use Rattle.places.specs.Places.{places_of};
+ghost use Rattle.places.specs.Choice.{at};
+ghost use Rattle.tags.specs.Tags.{free_packet};
+ghost use Rattle.packets.specs.Calls.{begun};
 ghost use Rattle.packets.specs.Queue.{fresh_queue, flow_at, waiting, waiting_of, busy_with};
 
-pub use choosing::goes_first;
 pub use quoting::quote_of;
+pub use ranking::ByStart;
 use tags::{Flow, Packet};
-use units::{LAST_FLOW, Refusal, Tag};
+use units::{Refusal, Tag};
 
 // The service: idle, or busy with the packet of this flow, number, length in bytes and finish tag.
 #[repr(C)]
-#[derive(Clone, Copy)]
+#[derive(Clone, Copy, Debug, PartialEq, Eq)]
 pub struct Service {
     pub busy: bool,
     pub flow: u64,
@@ -33,7 +38,7 @@ pub struct Queue {
 }
 
 // What a call is answered.
-#[derive(Clone, Copy)]
+#[derive(Clone, Copy, Debug, PartialEq, Eq)]
 pub enum Answer {
     Refused(Refusal),
     Opened,
@@ -46,26 +51,11 @@ pub enum Answer {
     Ended(u64, u64, u64),
 }
 
-// The tags that a packet would get, and whether they and its number fit.
-#[derive(Clone, Copy)]
+// The tags that a packet would get.
+#[derive(Clone, Copy, Debug, PartialEq, Eq)]
 pub struct Quote {
-    pub fits: bool,
     pub start: Tag,
     pub finish: Tag,
-}
-
-// The flows after a call that changes nothing else, and the answer.
-#[derive(Drop)]
-pub struct Flows {
-    pub flows: [Flow; 16],
-    pub answer: Answer,
-}
-
-// The queue after a call, and the answer.
-#[derive(Drop)]
-pub struct Kept {
-    pub queue: Queue,
-    pub answer: Answer,
 }
 
 impl Queue {
@@ -74,26 +64,9 @@ impl Queue {
         ensures { result ≡ fresh_queue }
     {
         Queue {
-            service: Service {
-                busy: false,
-                flow: 0,
-                number: 0,
-                length: 0,
-                finish: Tag(0),
-            },
-            flows: [Flow {
-                opened: false,
-                weight: 0,
-                next: 0,
-                finish: Tag(0),
-            }; 16],
-            packets: [Packet {
-                held: false,
-                number: 0,
-                length: 0,
-                start: Tag(0),
-                finish: Tag(0),
-            }; 256],
+            service: Service::IDLE,
+            flows: [Flow::SHUT; 16],
+            packets: [Packet::FREE; 256],
         }
     }
 
@@ -101,54 +74,74 @@ impl Queue {
     pub fn flow_at(&self, flow: u64) -> Flow
         ensures { result ≡ flow_at self.now flow }
     {
-        if LAST_FLOW < flow {
-            return Flow {
-                opened: false,
-                weight: 0,
-                next: 0,
-                finish: Tag(0),
-            };
+        match units::flow_index(flow) {
+            Ok(f) => self.flows[f],
+            Err(_) => Flow::SHUT,
         }
-        let flows = self.flows;
-        flows[flow as usize]
+    }
+
+    // The places of a flow; one that is none of the sixteen has none.
+    pub fn places(&self, flow: u64) -> &[Packet]
+        ensures value { result.now ≡ places_of place_count flow self.now.packets }
+        ensures none { 15 < flow → result.now ≡ [] }
+    {
+        match units::flow_index(flow) {
+            Ok(f) => &self.packets[f * 16..f * 16 + 16],
+            Err(_) => &[],
+        }
     }
 
     // How many packets wait.
-    #[tactic(auto, unfolding(places::specs::Places::count))]
     pub fn waiting(&self) -> u64
         ensures { result ≡ waiting self.now }
     {
-        let packets = self.packets;
-        let mut waiting: u64 = 0;
-        let mut i: usize = 0;
-        while i < 256 {
-            let p = packets[i];
-            if p.held {
-                waiting += 1;
-            }
-            i += 1;
-        }
-        waiting
+        places::count_waiting(&ByStart, &self.packets) as u64
     }
 
     // How many packets of the flow wait.
-    #[tactic(auto, unfolding(places::specs::Places::count))]
     pub fn waiting_of(&self, flow: u64) -> u64
-        requires { flow ≤ 15 }
         ensures { result ≡ waiting_of self.now flow }
     {
-        let packets = self.packets;
-        let f = flow as usize;
-        let mut count: u64 = 0;
-        let mut i: usize = 0;
-        while i < 16 {
-            let p = packets[f * 16 + i];
-            if p.held {
-                count += 1;
-            }
-            i += 1;
-        }
-        count
+        places::count_waiting(&ByStart, self.places(flow)) as u64
+    }
+}
+
+impl Queue {
+    // The packet that waits in a place goes into service, and leaves its place free.
+    pub fn serve(&mut self, place: usize, packet: Packet) -> Answer
+        ensures answer { result ≡ (begun self.old (at place packet)).answer }
+        ensures queue { self.new ≡ (begun self.old (at place packet)).queue }
+    {
+        let flow = (place / 16) as u64;
+        leave(&mut self.packets, place);
+        self.service = Service {
+            busy: true,
+            flow,
+            number: packet.number,
+            length: packet.length,
+            finish: packet.finish,
+        };
+        Answer::Begun(flow, packet.number, packet.length, packet.start)
+    }
+}
+
+impl Service {
+    // No packet is in service.
+    pub const IDLE: Service = Service {
+        busy: false,
+        flow: 0,
+        number: 0,
+        length: 0,
+        finish: Tag(0),
+    };
+}
+
+// A place is left free, if there is such a place.
+fn leave(packets: &mut [Packet], place: usize)
+    ensures { packets.new ≡ set packets.old place free_packet }
+{
+    if place < packets.len() {
+        packets[place] = Packet::FREE;
     }
 }
 
@@ -156,8 +149,5 @@ impl Queue {
 pub fn busy_with(service: Service, flow: u64) -> bool
     ensures { result ≡ busy_with service flow }
 {
-    if service.busy {
-        return service.flow == flow;
-    }
-    false
+    service.busy && service.flow == flow
 }

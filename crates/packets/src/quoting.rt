@@ -3,34 +3,19 @@ ghost use Rattle.std.specs.Prelude.{◌≡◌};
 ghost use Rattle.packets.specs.Quotes.{quote_of};
 
 use crate::Quote;
-use tags::{Finish, Flow};
+use tags::Flow;
 use units::{TAG_LIMIT, Tag};
 
-// Where a packet of this length would start and finish, offered to the flow at this time.
+// Where a packet of this length would start and finish, offered to the flow at this time; nowhere where its number or its finish would pass
+// the largest.
 #[tactic(auto, unfolding(crate::specs::Quotes::quote_of))]
-pub fn quote_of(was: Flow, time: Tag, length: u64) -> Quote
+pub fn quote_of(was: Flow, time: Tag, length: u64) -> Option<Quote>
     ensures { result ≡ quote_of was time length }
 {
-    let last = was.finish;
-    let start = tags::later(time, last);
+    let start = tags::later(time, was.finish);
     if TAG_LIMIT < was.next {
-        return Quote {
-            fits: false,
-            start: start,
-            finish: start,
-        };
+        return None;
     }
-    let ends = tags::finish_of(start, length, was.weight);
-    let Finish::At(finish) = ends else {
-        return Quote {
-            fits: false,
-            start: start,
-            finish: start,
-        };
-    };
-    Quote {
-        fits: true,
-        start: start,
-        finish: finish,
-    }
+    let finish = tags::finish_of(start, length, was.weight)?;
+    Some(Quote { start, finish })
 }

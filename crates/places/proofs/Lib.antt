@@ -1,4 +1,5 @@
 pub mod Count
+pub mod Counted
 pub mod CountAt
 pub mod Free
 pub mod Order

@@ -1,24 +1,26 @@
--- A scan for the least held place that keeps what it found beside its place: each step of it.
-use mathlib.Core.Path.{◌≡◌, refl, sym, ap, ◌∙◌}
-use mathlib.Core.Logic.{◌⊎◌, inl, inr}
-use mathlib.Core.Bool.{Bool, true, false, ◌&&◌}
-use mathlib.Core.List.{List, [], ◌∷◌, ◌++◌}
-use Prim.Native.Nat.{ℕ, suc, ◌+◌, ◌≤◌, ◌<◌}
-use native.Mathlib.Numerals.{add-one}
-use native.Mathlib.Omega.{arith}
-use lib.ListN.{length, get_or, take, length-take}
+-- The best of the first i places: what one place more makes of it.
+use Rattle.std.proofs.Common.{◌≡◌, IfSome, subst, cond, refl, sym, ap, ◌∙◌, Bool, true, false, Option, None, Some, List, [], ◌∷◌, ◌++◌, ℕ, suc, ◌+◌, ◌<◌, ◌≤◌, add-one, arith, length, get_or, take}
+use lib.ListN.{length-take}
 use lib.Seq.{take-suc, take_all}
-use Rattle.places.specs.Choice.{Key, comes_before, goes_first, Choice, nothing, at, better, least, least_held}
-use Rattle.places.proofs.Tests.{and_holds, and_told}
+use Rattle.std.proofs.lemmas.Option.{IfSome_then, none-some, some_pair_parts}
+use Rattle.places.specs.declared.Key.{Key}
+use Rattle.places.specs.Choice.{better_than, chosen_of, Choice, nothing, at, better, least, least_held}
 
--- y at place j, which lies before place i, is the choice; where y is free there is no choice, and j is n
-abbrev pub Found : {A : Type 0} → (A → Bool) → ℕ → Choice A → ℕ → A → ℕ → Type 0
-Found held n choice j y i = ((held y ≡ false) × (j ≡ n) × (choice ≡ nothing)) ⊎ ((held y ≡ true) × (j < i) × (choice ≡ at j y))
-
-module _ {A : Type 0} (held : A → Bool) (key : ℕ → A → Key) (d : A) (n : ℕ) where
-  -- a scan of n places has come to place i with y from place j
-  abbrev pub Scanned : List A → ℕ → A → ℕ → Type 0
-  Scanned xs j y i = Found held n (least_held held key (take i xs)) j y i
+module _ {A : Type 0} (held : A → Bool) (key : ℕ → A → Key) where
+  -- the best of a choice and of one place more
+  better_or : (best : Choice A) (k : ℕ) (x : A) (t : Bool) → better_than held key k x (chosen_of best) ≡ t
+      → chosen_of (better held key best k x) ≡ cond t (Some (k, x)) (chosen_of best)
+  unfolding better
+  better_or nothing k x t e = rw e (go t)
+    where
+      go : (t : Bool) → chosen_of (cond t (at k x) nothing) ≡ cond t (Some (k, x)) None
+      go true = refl
+      go false = refl
+  better_or (at j y) k x t e = rw e (go t)
+    where
+      go : (t : Bool) → chosen_of (cond t (at k x) (at j y)) ≡ cond t (Some (k, x)) (Some (j, y))
+      go true = refl
+      go false = refl
 
   -- one place more at the end of a list
   least_snoc : (best : Choice A) (k : ℕ) (xs : List A) (x : A) (i : ℕ) → k + length xs ≡ i
@@ -27,35 +29,41 @@ module _ {A : Type 0} (held : A → Bool) (key : ℕ → A → Key) (d : A) (n :
   least_snoc best k [] x i e = ap (λ (m : ℕ). better held key best m x) (omega arith)
   least_snoc best k (y ∷ ys) x i e = least_snoc (better held key best k y) (suc k) ys x i (omega arith)
 
-  pub scanned_starts : (xs : List A) → held d ≡ false → Scanned xs n d 0
+  chosen_next : (xs : List A) (i : ℕ) (x : A) (t : Bool) → i < length xs → x ≡ get_or xs i x
+      → better_than held key i x (chosen_of (least_held held key (take i xs))) ≡ t
+      → chosen_of (least_held held key (take (i + 1) xs)) ≡ cond t (Some (i, x)) (chosen_of (least_held held key (take i xs)))
+  chosen_next xs i x t p e b =
+      rw (add-one, take-suc xs i x p, ← e, least_snoc nothing 0 (take i xs) x i (simp length-take (omega arith))) (better_or (least_held held key (take i xs)) i x t b)
+
+  -- the best of the places before i, which is one of them
+  pub record Best (xs : List A) (i : ℕ) (best : Option (ℕ × A)) : Type 0 where
+    pub choice : best ≡ chosen_of (least_held held key (take i xs))
+    pub within : IfSome best (λ b. b.0 < i)
+
+  pub best_starts : (xs : List A) → Best xs 0 None
   unfolding least
-  scanned_starts xs f = inl (f, refl, refl)
+  best_starts xs = record { choice = refl; within = tt }
 
-  module _ (xs : List A) (j : ℕ) (y : A) (i : ℕ) (p : i < length xs) where
-    step : least_held held key (take (i + 1) xs) ≡ better held key (least_held held key (take i xs)) i (get_or xs i d)
-    step = rw (add-one, take-suc xs i d p) (least_snoc nothing 0 (take i xs) (get_or xs i d) i (simp length-take (omega arith)))
+  module _ (xs : List A) (i : ℕ) (x : A) (best : Option (ℕ × A)) (p : i < length xs) (e : x ≡ get_or xs i x) (q : Best xs i best) where
+    pub best_new : better_than held key i x best ≡ true → Best xs (i + 1) (Some (i, x))
+    best_new b = record { choice = sym (chosen_next xs i x true p e (subst (λ o. better_than held key i x o ≡ true) q.choice b)); within = omega arith }
 
-    pub scanned_new : Scanned xs j y i → goes_first held key i (get_or xs i d) j y ≡ true → Scanned xs i (get_or xs i d) (i + 1)
-    unfolding better
-    scanned_new (inl q) g =
-        let h = (and_told _ _ g).0 in
-        inr (h, omega arith, step ∙ rw (q.2, h))
-    scanned_new (inr q) g =
-        let h : (held (get_or xs i d) && comes_before (key i (get_or xs i d)) (key j y)) ≡ true = rw q.0 at g in
-        inr ((and_told _ _ g).0, omega arith, step ∙ rw (q.2, h))
+    pub best_kept : better_than held key i x best ≡ false → Best xs (i + 1) best
+    best_kept b =
+        record {
+          choice = q.choice ∙ sym (chosen_next xs i x false p e (subst (λ o. better_than held key i x o ≡ false) q.choice b));
+          within = IfSome_then best q.within (λ b h. omega arith);
+        }
 
-    pub scanned_kept : Scanned xs j y i → goes_first held key i (get_or xs i d) j y ≡ false → Scanned xs j y (i + 1)
-    unfolding better
-    scanned_kept (inl q) g =
-        let h : held (get_or xs i d) ≡ false = sym (and_holds _ _ (rw q.0)) ∙ g in
-        inl (q.0, q.1, step ∙ rw (q.2, h))
-    scanned_kept (inr q) g =
-        let h : (held (get_or xs i d) && comes_before (key i (get_or xs i d)) (key j y)) ≡ false = rw q.0 at g in
-        inr (q.0, omega arith, step ∙ rw (q.2, h))
+  -- before the end of the list the best is the choice of all
+  pub best_ends : (xs : List A) (i : ℕ) (best : Option (ℕ × A)) → length xs ≤ i → Best xs i best → best ≡ chosen_of (least_held held key xs)
+  best_ends xs i best l q = q.choice ∙ ap (λ ys. chosen_of (least_held held key ys)) (take_all i xs l)
 
-  -- what the scan has found in the end
-  pub scanned_ends : (xs : List A) (j : ℕ) (y : A) (i : ℕ) → Scanned xs j y i → length xs ≡ n → n ≤ i → i ≤ n → Found held n (least_held held key xs) j y n
-  scanned_ends xs j y i q l h h' =
-      let t : take i xs ≡ xs = take_all i xs (omega arith) in
-      let e : i ≡ n = omega arith in
-      rw (t, e) at q
+-- what is chosen, by what a search answers
+pub chosen_at : {A : Type 0} (choice : Choice A) (k : ℕ) (x : A) → Some (k, x) ≡ chosen_of choice → choice ≡ at k x
+chosen_at nothing k x e = absurd (none-some _ (sym e))
+chosen_at (at j y) k x e = let p = some_pair_parts k j x y e in rw (p.0, p.1)
+
+pub chosen_none : {A : Type 0} (choice : Choice A) → None ≡ chosen_of choice → choice ≡ nothing
+chosen_none nothing e = refl
+chosen_none (at k x) e = absurd (none-some _ e)

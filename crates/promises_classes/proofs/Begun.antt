@@ -14,7 +14,6 @@ use Rattle.places.specs.Places.{bit, flow_of}
 use Rattle.places.specs.Choice.{at}
 use Rattle.places.proofs.Tests.{neither_told}
 use Rattle.tags.specs.declared.Packet.{Packet}
-use Rattle.tags.specs.declared.Finish.TheVariants.{At, Beyond}
 use Rattle.tags.specs.Tags.{finish_at, finish_of}
 use Rattle.packets.specs.declared.Queue.{Queue}
 use Rattle.plans.specs.declared.Plan.{Plan}
@@ -44,8 +43,8 @@ reached_at : (x : Node) (bytes : ℕ) → is_beyond (finish_for x bytes) ≡ fal
 unfolding finish_of
 reached_at x bytes = go (bad_length bytes || ltb tag_limit (finish_at x.start bytes x.weight))
   where
-    go : (b : Bool) → is_beyond (cond b Beyond (At (record { 0 = finish_at x.start bytes x.weight }))) ≡ false
-        → (reached x.finish (cond b Beyond (At (record { 0 = finish_at x.start bytes x.weight })))).0 ≡ finish_at x.start bytes x.weight
+    go : (b : Bool) → is_beyond (cond b None (Some (record { 0 = finish_at x.start bytes x.weight }))) ≡ false
+        → (reached x.finish (cond b None (Some (record { 0 = finish_at x.start bytes x.weight })))).0 ≡ finish_at x.start bytes x.weight
     go true e = absurd (true≢false e)
     go false e = refl
 

@@ -1,4 +1,5 @@
 -- Whether a packet of a good length would pass the largest tag on its way: the tree's test is that of the rules.
+use Rattle.std.proofs.Common.{Option, None, Some}
 use mathlib.Core.Path.{◌≡◌, refl, sym, ◌∙◌, ap}
 use mathlib.Core.Bool.{Bool, true, false, cond, ◌||◌}
 use mathlib.Core.Logic.{inl, inr}
@@ -10,7 +11,6 @@ use lib.Dec.{eqb, ltb}
 use Rattle.units.specs.Limits.{tag_limit, bad_length}
 use Rattle.units.specs.Charges.{charge_of}
 use Rattle.places.proofs.Tests.{neither_told}
-use Rattle.tags.specs.declared.Finish.TheVariants.{At, Beyond}
 use Rattle.tags.specs.Tags.{finish_at, finish_of}
 use Rattle.plans.specs.declared.Plan.{Plan}
 use Rattle.plans.specs.Plans.{class_in, Fits}
@@ -35,7 +35,7 @@ beyond_is : (x : Node) (bytes : ℕ) → bad_length bytes ≡ false → is_beyon
 unfolding finish_of
 beyond_is x bytes e = rw e (go (ltb tag_limit (finish_at x.start bytes x.weight)))
   where
-    go : (b : Bool) → is_beyond (cond b Beyond (At (record { 0 = finish_at x.start bytes x.weight }))) ≡ b
+    go : (b : Bool) → is_beyond (cond b None (Some (record { 0 = finish_at x.start bytes x.weight }))) ≡ b
     go true = refl
     go false = refl
 

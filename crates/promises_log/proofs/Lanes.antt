@@ -21,7 +21,7 @@ use Rattle.tags.specs.Tags.{free_packet}
 use Rattle.fair.specs.declared.Fair.{Fair as FairLane}
 use Rattle.fair.specs.declared.Done.{Done as FairDone}
 use Rattle.packets.specs.declared.Answer.TheVariants.{Opened as FairOpened}
-use Rattle.packets.specs.declared.Flows.{Flows}
+use Rattle.packets.specs.Kept.{Flows}
 use Rattle.packets.specs.Queue.{idle, flow_at as fair_at}
 use Rattle.packets.specs.Calls.{open_of as open_in, opened as fair_opened}
 use Rattle.packets.proofs.Calls.{open_3 as fair-3, open_ok as fair-ok}

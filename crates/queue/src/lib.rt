@@ -1,84 +1,62 @@
 // The places of a queue of packets: putting a packet that is offered.
 #![tactic(auto)]
 
-ghost use Rattle.std.specs.Prelude.{◌≡◌};
-ghost use Rattle.packets.specs.Calls.{put_of};
+ghost use Rattle.std.specs.Prelude.{◌≡◌, MatchResult};
+ghost use Rattle.packets.specs.Calls.{put_of, refused};
+ghost use Rattle.queue.specs.Taken.{Takes};
 
-use packets::{Answer, Kept, Queue, Quote};
+use packets::{Answer, ByStart, Queue, Quote};
 use tags::{Flow, Packet};
-use units::{LAST_FLOW, Refusal};
+use units::Refusal;
 
 // Puts a packet of a flow, of this length in bytes, in the flow's first free place, with the tags that it was quoted.
-#[tactic(auto, unfolding(packets::specs::Calls::put_of, units::specs::Refusals::first_of))]
-pub fn put(queue: Queue, flow: u64, length: u64, quote: Quote) -> Kept
-    ensures { result ≡ put_of queue flow length quote }
+pub fn put(queue: &mut Queue, flow: u64, length: u64, quote: Option<Quote>) -> Answer
+    ensures answer { result ≡ (put_of queue.old flow length quote).answer }
+    ensures queue { queue.new ≡ (put_of queue.old flow length quote).queue }
 {
-    if LAST_FLOW < flow {
-        return Kept {
-            queue,
-            answer: Answer::Refused(Refusal::NoSuchFlow),
-        };
+    match to_put(queue, flow, length, quote) {
+        Ok((f, place, Quote { start, finish })) => {
+            let number = queue.flows[f].next;
+            queue.packets[place] = Packet {
+                held: true,
+                number,
+                length,
+                start,
+                finish,
+            };
+            queue.flows[f] = Flow {
+                next: number.wrapping_add(1),
+                finish,
+                ..queue.flows[f]
+            };
+            Answer::Accepted(number, start, finish)
+        }
+        Err(refusal) => Answer::Refused(refusal),
     }
-    let f = flow as usize;
-    let mut flows = queue.flows;
-    let was = flows[f];
-    if !was.opened {
-        return Kept {
-            queue,
-            answer: Answer::Refused(Refusal::NotOpen),
-        };
+}
+
+// The flow of a packet that is put, the place that it takes and its tags; or why it is not taken.
+#[tactic(auto, unfolding(packets::specs::Calls::put_of, units::specs::Refusals::first_of))]
+fn to_put(
+    queue: &Queue,
+    flow: u64,
+    length: u64,
+    quote: Option<Quote>,
+) -> Result<(usize, usize, Quote), Refusal>
+    ensures { MatchResult result (λ taken. Takes queue.now flow length quote taken.0 taken.1 taken.2) (λ refusal. put_of queue.now flow length quote ≡ refused queue.now refusal) }
+{
+    let f = units::flow_index(flow)?;
+    if !queue.flows[f].opened {
+        return Err(Refusal::NotOpen);
     }
     if units::bad_length(length) {
-        return Kept {
-            queue,
-            answer: Answer::Refused(Refusal::BadLength),
-        };
+        return Err(Refusal::BadLength);
     }
-    let mut packets = queue.packets;
-    let mut k: usize = 16;
-    let mut i: usize = 16;
-    while 0 < i {
-        i -= 1;
-        let p = packets[f * 16 + i];
-        if !p.held {
-            k = i;
-        }
-    }
-    if 16 <= k {
-        return Kept {
-            queue,
-            answer: Answer::Refused(Refusal::PlacesFull),
-        };
-    }
-    if !quote.fits {
-        return Kept {
-            queue,
-            answer: Answer::Refused(Refusal::TagsUsedUp),
-        };
-    }
-    let start = quote.start;
-    let finish = quote.finish;
-    packets[f * 16 + k] = Packet {
-        held: true,
-        number: was.next,
-        length: length,
-        start: start,
-        finish: finish,
+    let Some(k) = places::first_free(&ByStart, queue.places(flow)) else {
+        return Err(Refusal::PlacesFull);
     };
-    let next = std::num::wrapping_add_u64(was.next, 1);
-    flows[f] = Flow {
-        opened: true,
-        weight: was.weight,
-        next: next,
-        finish: finish,
+    let Some(tags) = quote else {
+        return Err(Refusal::TagsUsedUp);
     };
-    let service = queue.service;
-    Kept {
-        queue: Queue {
-            service,
-            flows,
-            packets,
-        },
-        answer: Answer::Accepted(was.next, start, finish),
-    }
+    Ok((f, f * 16 + k, tags))
 }

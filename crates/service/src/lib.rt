@@ -1,100 +1,46 @@
 // The service of a queue of packets: taking the first packet into it, and ending it.
 #![tactic(auto)]
 
-ghost use Rattle.std.specs.Prelude.{◌≡◌};
+ghost use Rattle.std.specs.Prelude.{◌≡◌, MatchResult};
+ghost use Rattle.places.specs.Choice.{at};
 ghost use Rattle.packets.specs.Queue.{by_start};
-ghost use Rattle.packets.specs.Calls.{begin_by, end_of};
+ghost use Rattle.packets.specs.Calls.{begun, refused, begin_by, end_of};
 
-use packets::{Answer, Kept, Queue, Service};
+use packets::{Answer, ByStart, Queue, Service};
 use tags::Packet;
-use units::{Refusal, Tag};
+use units::Refusal;
 
 // Takes the waiting packet with the smallest start tag into service.
-#[tactic(auto, unfolding(packets::specs::Calls::begin_by, units::specs::Refusals::first_of))]
-pub fn begin(queue: Queue) -> Kept
-    ensures { result ≡ begin_by by_start queue }
+pub fn begin(queue: &mut Queue) -> Answer
+    ensures answer { result ≡ (begin_by by_start queue.old).answer }
+    ensures queue { queue.new ≡ (begin_by by_start queue.old).queue }
 {
-    let service = queue.service;
-    if service.busy {
-        return Kept {
-            queue,
-            answer: Answer::Refused(Refusal::PacketInService),
-        };
+    match to_begin(queue) {
+        Ok((place, packet)) => queue.serve(place, packet),
+        Err(refusal) => Answer::Refused(refusal),
     }
-    let free = Packet {
-        held: false,
-        number: 0,
-        length: 0,
-        start: Tag(0),
-        finish: Tag(0),
-    };
-    let mut packets = queue.packets;
-    let mut best: usize = 256;
-    let mut taken = free;
-    let mut i: usize = 0;
-    while i < 256 {
-        let p = packets[i];
-        if packets::goes_first(p, i, taken, best) {
-            best = i;
-            taken = p;
-        }
-        i += 1;
+}
+
+// The packet that is to be begun and its place, or why none is.
+fn to_begin(queue: &Queue) -> Result<(usize, Packet), Refusal>
+    ensures { MatchResult result (λ first. begin_by by_start queue.now ≡ begun queue.now (at first.0 first.1)) (λ refusal. begin_by by_start queue.now ≡ refused queue.now refusal) }
+{
+    if queue.service.busy {
+        return Err(Refusal::PacketInService);
     }
-    if 256 <= best {
-        return Kept {
-            queue,
-            answer: Answer::Refused(Refusal::NothingWaits),
-        };
-    }
-    let flow = (best / 16) as u64;
-    packets[best] = free;
-    let start = taken.start;
-    let finish = taken.finish;
-    let served = Service {
-        busy: true,
-        flow: flow,
-        number: taken.number,
-        length: taken.length,
-        finish: finish,
-    };
-    let flows = queue.flows;
-    Kept {
-        queue: Queue {
-            service: served,
-            flows,
-            packets,
-        },
-        answer: Answer::Begun(flow, taken.number, taken.length, start),
-    }
+    places::first(&ByStart, &queue.packets).ok_or(Refusal::NothingWaits)
 }
 
 // Ends the packet in service.
 #[tactic(auto, unfolding(packets::specs::Calls::end_of, units::specs::Refusals::first_of))]
-pub fn end(queue: Queue) -> Kept
-    ensures { result ≡ end_of queue }
+pub fn end(queue: &mut Queue) -> Answer
+    ensures answer { result ≡ (end_of queue.old).answer }
+    ensures queue { queue.new ≡ (end_of queue.old).queue }
 {
-    let service = queue.service;
-    if !service.busy {
-        return Kept {
-            queue,
-            answer: Answer::Refused(Refusal::NothingInService),
-        };
+    let served = queue.service;
+    if !served.busy {
+        return Answer::Refused(Refusal::NothingInService);
     }
-    let idle = Service {
-        busy: false,
-        flow: 0,
-        number: 0,
-        length: 0,
-        finish: Tag(0),
-    };
-    let flows = queue.flows;
-    let packets = queue.packets;
-    Kept {
-        queue: Queue {
-            service: idle,
-            flows,
-            packets,
-        },
-        answer: Answer::Ended(service.flow, service.number, service.length),
-    }
+    queue.service = Service::IDLE;
+    Answer::Ended(served.flow, served.number, served.length)
 }

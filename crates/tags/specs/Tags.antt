@@ -1,12 +1,10 @@
 -- The tags of a packet, and what a place and a flow's record are when nothing is in them.
-use Rattle.std.specs.Prelude.{Bool, false, cond, ◌||◌, ℕ, ◌+◌, ◌*◌, ltb}
+use Rattle.std.specs.Prelude.{Bool, false, cond, ◌||◌, Option, None, Some, ℕ, ◌+◌, ◌*◌, ltb}
 use Rattle.units.specs.Limits.{tag_limit, bad_length}
 use Rattle.units.specs.Charges.{charge_of}
 use Rattle.units.specs.declared.Tag.{Tag}
 use Rattle.tags.specs.declared.Flow.{Flow}
 use Rattle.tags.specs.declared.Packet.{Packet}
-use Rattle.tags.specs.declared.Finish.{Finish}
-use Rattle.tags.specs.declared.Finish.TheVariants.{At, Beyond}
 
 -- a free place
 abbrev pub free_packet : Packet
@@ -29,6 +27,6 @@ abbrev pub finish_at : Tag → ℕ → ℕ → ℕ
 finish_at start length weight = start.0 + length * charge_of weight
 
 -- a packet of no good length, or one that would finish past the largest tag, has no finish
-unfoldable pub finish_of : Tag → ℕ → ℕ → Finish
+unfoldable pub finish_of : Tag → ℕ → ℕ → Option Tag
 finish_of start length weight =
-    cond (bad_length length || ltb tag_limit (finish_at start length weight)) Beyond (At (record { 0 = finish_at start length weight }))
+    cond (bad_length length || ltb tag_limit (finish_at start length weight)) None (Some (record { 0 = finish_at start length weight }))

@@ -8,7 +8,7 @@ use units::{TAG_LIMIT, Tag};
 
 // A flow: whether it is open, its weight, the number of its next packet, and the finish tag of its last.
 #[repr(C)]
-#[derive(Clone, Copy)]
+#[derive(Clone, Copy, Debug, PartialEq, Eq)]
 pub struct Flow {
     pub opened: bool,
     pub weight: u64,
@@ -18,7 +18,7 @@ pub struct Flow {
 
 // A place: free, or held by the waiting packet of this number, length in bytes, start tag and finish tag.
 #[repr(C)]
-#[derive(Clone, Copy)]
+#[derive(Clone, Copy, Debug, PartialEq, Eq)]
 pub struct Packet {
     pub held: bool,
     pub number: u64,
@@ -27,44 +27,54 @@ pub struct Packet {
     pub finish: Tag,
 }
 
-// Where a packet would finish.
-#[derive(Clone, Copy)]
-pub enum Finish {
-    At(Tag),
-    // No packet has this length, or its finish would pass the largest tag.
-    Beyond,
+impl Flow {
+    // A flow that was never opened.
+    pub const SHUT: Flow = Flow {
+        opened: false,
+        weight: 0,
+        next: 0,
+        finish: Tag(0),
+    };
+}
+
+impl Packet {
+    // A free place.
+    pub const FREE: Packet = Packet {
+        held: false,
+        number: 0,
+        length: 0,
+        start: Tag(0),
+        finish: Tag(0),
+    };
 }
 
 // Whether tag a comes before tag b.
 pub fn earlier(a: Tag, b: Tag) -> bool
     ensures { result ≡ ltb a.0 b.0 }
 {
-    a.0 < b.0
+    a < b
 }
 
 // The later of two tags.
 pub fn later(a: Tag, b: Tag) -> Tag
     ensures { result ≡ later_of a b }
 {
-    if earlier(a, b) {
-        return b;
-    }
-    a
+    a.max(b)
 }
 
-// Where a packet of this length that starts at `start` would finish, in a flow of this weight.
+// Where a packet of this length that starts at `start` would finish, in a flow of this weight; nowhere where no packet has this length, or
+// the finish would pass the largest tag.
 #[tactic(auto, unfolding(crate::specs::Tags::finish_of))]
-pub fn finish_of(start: Tag, length: u64, weight: u64) -> Finish
+pub fn finish_of(start: Tag, length: u64, weight: u64) -> Option<Tag>
     ensures { result ≡ finish_of start length weight }
 {
     if units::bad_length(length) {
-        return Finish::Beyond;
+        return None;
     }
-    let charge = units::charge(weight);
-    let cost = length * charge;
     let from = start.0;
+    let cost = length * units::charge(weight);
     if units::passes(from, cost, TAG_LIMIT) {
-        return Finish::Beyond;
+        return None;
     }
-    Finish::At(Tag(from + cost))
+    Some(Tag(from + cost))
 }

@@ -1,8 +1,6 @@
 -- What becomes of one node, and of the times of one class, where a packet below it is offered, begun or ended.
-use Rattle.std.specs.Prelude.{ℕ, ◌+◌, ◌-◌, ◌%◌, ◌^◌, Bool, true, false, cond, ◌==◌}
+use Rattle.std.specs.Prelude.{ℕ, ◌+◌, ◌-◌, ◌%◌, ◌^◌, Bool, true, false, cond, ◌==◌, Option, None, Some}
 use Rattle.units.specs.declared.Tag.{Tag}
-use Rattle.tags.specs.declared.Finish.{Finish}
-use Rattle.tags.specs.declared.Finish.TheVariants.{At, Beyond}
 use Rattle.tags.specs.Tags.{later_of, finish_of}
 use Rattle.tree.specs.declared.Node.{Node}
 use Rattle.tree.specs.declared.Class.{Class}
@@ -29,17 +27,17 @@ abbrev pub offered_root : Node → Node
 offered_root x = with_tags x (one_more x) x.start x.finish
 
 -- the finish that is reached, or the last one where none is
-abbrev pub reached : Tag → Finish → Tag
-reached last (At finish) = finish
-reached last Beyond = last
+abbrev pub reached : Tag → Option Tag → Tag
+reached last (Some finish) = finish
+reached last None = last
 
 -- no finish is reached: it would pass the largest tag
-abbrev pub is_beyond : Finish → Bool
-is_beyond (At finish) = false
-is_beyond Beyond = true
+abbrev pub is_beyond : Option Tag → Bool
+is_beyond (Some finish) = false
+is_beyond None = true
 
 -- the finish of a child for a packet of this length that is begun below it
-abbrev pub finish_for : Node → ℕ → Finish
+abbrev pub finish_for : Node → ℕ → Option Tag
 finish_for x length = finish_of x.start length x.weight
 
 -- Begun below a child: one waits less, and its finish is worked out.

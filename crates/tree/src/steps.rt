@@ -3,7 +3,6 @@ ghost use Rattle.std.specs.Prelude.{◌≡◌};
 ghost use Rattle.tree.specs.Steps.{offered_node, offered_root, is_beyond, finish_for, begun_node, begun_root, begun_class, ended_node, ended_class};
 
 use crate::{Class, Node};
-use tags::Finish;
 use units::Tag;
 
 // A child below which a packet is offered, in a class at this time.
@@ -38,7 +37,7 @@ pub fn passes(x: Node, length: u64) -> bool
     ensures { result ≡ is_beyond (finish_for x length) }
 {
     let finish = tags::finish_of(x.start, length, x.weight);
-    let Finish::At(_) = finish else {
+    let Some(_) = finish else {
         return true;
     };
     false
@@ -49,8 +48,7 @@ pub fn begun(x: Node, length: u64) -> Node
     ensures { result ≡ begun_node length x }
 {
     let waiting = x.waiting.saturating_sub(1);
-    let ends = tags::finish_of(x.start, length, x.weight);
-    let Finish::At(finish) = ends else {
+    let Some(finish) = tags::finish_of(x.start, length, x.weight) else {
         return Node { waiting, ..x };
     };
     Node {

@@ -1,7 +1,7 @@
 // What the station counts in, the limit of every number, and the refusals.
 #![tactic(auto)]
 
-ghost use Rattle.std.specs.Prelude.{◌≡◌, ◌+◌, nat_lt};
+ghost use Rattle.std.specs.Prelude.{◌≡◌, ◌+◌, ◌<◌, ◌≤◌, nat_lt, MatchResult};
 ghost use Rattle.units.specs.Limits.{outside_of, bad_weight, bad_deadline, bad_length};
 ghost use Rattle.units.specs.Refusals.{number_of};
 ghost use Rattle.units.specs.Charges.{charge_of};
@@ -9,35 +9,35 @@ ghost use Rattle.units.specs.Radio.{slots_passed};
 
 // A turn of the radio, counted from 0.
 #[repr(C)]
-#[derive(Clone, Copy)]
+#[derive(Clone, Copy, Debug, PartialEq, Eq, PartialOrd, Ord)]
 pub struct Slot(pub u64);
 
 // A moment of the fair lane, counted in shares of a byte: 720,720 to a byte at weight 1.
 #[repr(C)]
-#[derive(Clone, Copy)]
+#[derive(Clone, Copy, Debug, PartialEq, Eq, PartialOrd, Ord)]
 pub struct Tag(pub u64);
 
-// Why a call was refused.
-#[derive(Clone, Copy)]
+// Why a call was refused, under the number by which the station's users know it.
+#[derive(Clone, Copy, Debug, PartialEq, Eq)]
 pub enum Refusal {
-    NoSuchFlow,
-    NotOpen,
-    AlreadyOpen,
-    PlacesFull,
-    TagsUsedUp,
-    SlotsUsedUp,
-    PacketInService,
-    NothingWaits,
-    NothingInService,
-    NoCommand,
-    FlowInUse,
-    BadWeight,
-    BadDeadline,
-    BadLength,
-    ListTooLong,
-    BadBurst,
-    BadPeriod,
-    BadTree,
+    NoSuchFlow = 1,
+    NotOpen = 2,
+    AlreadyOpen = 3,
+    PlacesFull = 5,
+    TagsUsedUp = 6,
+    SlotsUsedUp = 7,
+    PacketInService = 8,
+    NothingWaits = 9,
+    NothingInService = 10,
+    NoCommand = 11,
+    FlowInUse = 12,
+    BadWeight = 13,
+    BadDeadline = 14,
+    BadLength = 15,
+    ListTooLong = 16,
+    BadBurst = 17,
+    BadPeriod = 18,
+    BadTree = 27,
 }
 
 // The highest flow number, the first slot number that no turn has, and the largest tag.
@@ -58,27 +58,18 @@ impl Refusal {
     pub fn number(self) -> u64
         ensures { result ≡ number_of self }
     {
-        match self {
-            Refusal::NoSuchFlow => 1,
-            Refusal::NotOpen => 2,
-            Refusal::AlreadyOpen => 3,
-            Refusal::PlacesFull => 5,
-            Refusal::TagsUsedUp => 6,
-            Refusal::SlotsUsedUp => 7,
-            Refusal::PacketInService => 8,
-            Refusal::NothingWaits => 9,
-            Refusal::NothingInService => 10,
-            Refusal::NoCommand => 11,
-            Refusal::FlowInUse => 12,
-            Refusal::BadWeight => 13,
-            Refusal::BadDeadline => 14,
-            Refusal::BadLength => 15,
-            Refusal::ListTooLong => 16,
-            Refusal::BadBurst => 17,
-            Refusal::BadPeriod => 18,
-            Refusal::BadTree => 27,
-        }
+        self as u64
     }
+}
+
+// The place of a flow's record among the sixteen, or that there is no such flow.
+pub fn flow_index(flow: u64) -> Result<usize, Refusal>
+    ensures { MatchResult result (λ k. (k ≡ flow) × (flow ≤ 15)) (λ refusal. (refusal ≡ Refusal.NoSuchFlow) × (15 < flow)) }
+{
+    if LAST_FLOW < flow {
+        return Err(Refusal::NoSuchFlow);
+    }
+    Ok(flow as usize)
 }
 
 // Whether a flow cannot have this weight.
@@ -106,20 +97,14 @@ pub fn bad_length(length: u64) -> bool
 pub fn outside(n: u64, most: u64) -> bool
     ensures { result ≡ outside_of n most }
 {
-    if n < 1 {
-        return true;
-    }
-    most < n
+    !(1..=most).contains(&n)
 }
 
 // Whether a and b together pass the limit, whatever they are.
 pub fn passes(a: u64, b: u64, limit: u64) -> bool
     ensures { result ≡ nat_lt limit (a + b) }
 {
-    if limit < a {
-        return true;
-    }
-    limit - a < b
+    a.checked_add(b).is_none_or(|sum| limit < sum)
 }
 
 // What one byte of a flow of this weight costs; 0 for a weight that no flow can have.
@@ -129,8 +114,7 @@ pub fn charge(weight: u64) -> u64
     if bad_weight(weight) {
         return 0;
     }
-    let k = (weight - 1) as usize;
-    CHARGES[k]
+    CHARGES[(weight - 1) as usize]
 }
 
 // How many slots have passed from one reading of the radio's own count to a later one.
@@ -138,5 +122,5 @@ pub fn charge(weight: u64) -> u64
 pub fn slots_passed(earlier: u16, later: u16) -> u16
     ensures { result ≡ slots_passed earlier later }
 {
-    std::num::wrapping_sub_u16(later, earlier)
+    later.wrapping_sub(earlier)
 }

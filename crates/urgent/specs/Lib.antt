@@ -1,4 +1,5 @@
 pub mod Lane
 pub mod Calls
+pub mod Taken
 pub mod Laws
 pub mod Answers

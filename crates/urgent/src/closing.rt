@@ -1,55 +1,40 @@
 // Closing a flow.
-ghost use Rattle.std.specs.Prelude.{◌≡◌};
-ghost use Rattle.urgent.specs.Calls.{close_of};
+ghost use Rattle.std.specs.Prelude.{◌≡◌, ◌≤◌, MatchResult};
+ghost use Rattle.urgent.specs.Calls.{closed, refused, close_of};
 
-use crate::{Answer, Done, Flow, Urgent};
-use units::{LAST_FLOW, Refusal};
+use crate::ranking::ByLastSlot;
+use crate::{Answer, Done, Urgent};
+use units::Refusal;
 
 impl Urgent {
     // Closes a flow that has no cell waiting. Its numbers go on when it is opened again.
-    pub fn close(self, flow: u64) -> Done
+    pub fn close(mut self, flow: u64) -> Done
         ensures { result ≡ close_of self flow }
     {
-        if LAST_FLOW < flow {
-            return Done {
-                lane: self,
-                answer: Answer::Refused(Refusal::NoSuchFlow),
-            };
-        }
-        let f = flow as usize;
-        let mut flows = self.flows;
-        let was = flows[f];
-        if !was.opened {
-            return Done {
-                lane: self,
-                answer: Answer::Refused(Refusal::NotOpen),
-            };
-        }
-        let cells = self.cells;
-        let mut waiting: u64 = 0;
-        let mut i: usize = 0;
-        while i < 16 {
-            let c = cells[f * 16 + i];
-            if c.held {
-                waiting += 1;
+        match self.to_close(flow) {
+            Ok(f) => {
+                self.flows[f].opened = false;
+                Done {
+                    lane: self,
+                    answer: Answer::Closed,
+                }
             }
-            i += 1;
+            Err(refusal) => self.refused(refusal),
         }
-        if 0 < waiting {
-            return Done {
-                lane: self,
-                answer: Answer::Refused(Refusal::FlowInUse),
-            };
+    }
+
+    // The flow that is to be closed, or why it is not.
+    #[tactic(auto, unfolding(crate::specs::Calls::close_of, units::specs::Refusals::first_of))]
+    fn to_close(&self, flow: u64) -> Result<usize, Refusal>
+        ensures { MatchResult result (λ f. (f ≡ flow) × (flow ≤ 15) × (close_of self.entry.now flow ≡ closed self.entry.now flow)) (λ refusal. close_of self.entry.now flow ≡ refused self.entry.now refusal) }
+    {
+        let f = units::flow_index(flow)?;
+        if !self.flows[f].opened {
+            return Err(Refusal::NotOpen);
         }
-        flows[f] = Flow {
-            opened: false,
-            deadline: was.deadline,
-            next: was.next,
-        };
-        let now = self.now;
-        Done {
-            lane: Urgent { now, flows, cells },
-            answer: Answer::Closed,
+        if 0 < places::count_waiting(&ByLastSlot, self.places(f)) {
+            return Err(Refusal::FlowInUse);
         }
+        Ok(f)
     }
 }

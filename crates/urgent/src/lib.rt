@@ -3,18 +3,22 @@
 
 mod closing;
 mod offering;
+mod opening;
+mod ranking;
 mod slots;
 mod turning;
 
-ghost use Rattle.std.specs.Prelude.{◌≡◌};
-ghost use Rattle.urgent.specs.Lane.{fresh_lane};
-ghost use Rattle.urgent.specs.Calls.{open_of};
+ghost use Rattle.std.specs.Prelude.{◌≡◌, ◌<◌, ◌*◌};
+ghost use Rattle.units.specs.Limits.{place_count};
+ghost use Rattle.places.specs.Places.{places_of};
+ghost use Rattle.urgent.specs.Lane.{free_cell, fresh_lane};
+ghost use Rattle.urgent.specs.Calls.{refused};
 
-use units::{LAST_FLOW, Refusal, Slot};
+use units::{Refusal, Slot};
 
 // A place: free, or held by the waiting cell of this number and last slot.
 #[repr(C)]
-#[derive(Clone, Copy)]
+#[derive(Clone, Copy, Debug, PartialEq, Eq)]
 pub struct Cell {
     pub held: bool,
     pub number: u64,
@@ -23,7 +27,7 @@ pub struct Cell {
 
 // A flow: whether it is open, its deadline in slots, and the number of its next cell.
 #[repr(C)]
-#[derive(Clone, Copy)]
+#[derive(Clone, Copy, Debug, PartialEq, Eq)]
 pub struct Flow {
     pub opened: bool,
     pub deadline: u64,
@@ -40,7 +44,7 @@ pub struct Urgent {
 }
 
 // What a call is answered.
-#[derive(Clone, Copy)]
+#[derive(Clone, Copy, Debug, PartialEq, Eq)]
 pub enum Answer {
     Refused(Refusal),
     Opened,
@@ -60,6 +64,13 @@ pub struct Done {
     pub answer: Answer,
 }
 
+// A free place.
+const FREE: Cell = Cell {
+    held: false,
+    number: 0,
+    last: Slot(0),
+};
+
 impl Urgent {
     // The lane before any call.
     pub fn fresh() -> Urgent
@@ -72,49 +83,25 @@ impl Urgent {
                 deadline: 0,
                 next: 0,
             }; 16],
-            cells: [Cell {
-                held: false,
-                number: 0,
-                last: Slot(0),
-            }; 256],
+            cells: [FREE; 256],
         }
     }
 
-    // Opens a flow with a deadline.
-    pub fn open(self, flow: u64, deadline: u64) -> Done
-        ensures { result ≡ open_of self flow deadline }
+    // The places of a flow.
+    fn places(&self, flow: usize) -> &[Cell]
+        requires { flow < 16 }
+        ensures { result.now ≡ places_of place_count flow self.entry.now.cells }
     {
-        if LAST_FLOW < flow {
-            return Done {
-                lane: self,
-                answer: Answer::Refused(Refusal::NoSuchFlow),
-            };
-        }
-        let f = flow as usize;
-        let mut flows = self.flows;
-        let was = flows[f];
-        if was.opened {
-            return Done {
-                lane: self,
-                answer: Answer::Refused(Refusal::AlreadyOpen),
-            };
-        }
-        if units::bad_deadline(deadline) {
-            return Done {
-                lane: self,
-                answer: Answer::Refused(Refusal::BadDeadline),
-            };
-        }
-        flows[f] = Flow {
-            opened: true,
-            deadline: deadline,
-            next: was.next,
-        };
-        let now = self.now;
-        let cells = self.cells;
+        &self.cells[flow * 16..flow * 16 + 16]
+    }
+
+    // A refused call hands the lane back as it was.
+    fn refused(self, refusal: Refusal) -> Done
+        ensures { result ≡ refused self refusal }
+    {
         Done {
-            lane: Urgent { now, flows, cells },
-            answer: Answer::Opened,
+            lane: self,
+            answer: Answer::Refused(refusal),
         }
     }
 }

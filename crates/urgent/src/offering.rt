@@ -1,75 +1,55 @@
 // Offering a cell.
-ghost use Rattle.std.specs.Prelude.{◌≡◌};
-ghost use Rattle.urgent.specs.Calls.{offer_of};
+ghost use Rattle.std.specs.Prelude.{◌≡◌, MatchResult};
+ghost use Rattle.urgent.specs.Calls.{refused, offer_of};
+ghost use Rattle.urgent.specs.Taken.{Takes};
 
+use crate::ranking::ByLastSlot;
 use crate::slots::{last_of, window_passes};
-use crate::{Answer, Cell, Done, Flow, Urgent};
-use units::{LAST_FLOW, Refusal};
+use crate::{Answer, Cell, Done, Urgent};
+use units::Refusal;
 
 impl Urgent {
     // Offers a cell of a flow, which may wait for this many slots: its own deadline, no longer than the flow's.
-    pub fn offer(self, flow: u64, deadline: u64) -> Done
+    pub fn offer(mut self, flow: u64, deadline: u64) -> Done
         ensures { result ≡ offer_of self flow deadline }
     {
-        if LAST_FLOW < flow {
-            return Done {
-                lane: self,
-                answer: Answer::Refused(Refusal::NoSuchFlow),
-            };
-        }
-        let f = flow as usize;
-        let mut flows = self.flows;
-        let was = flows[f];
-        if !was.opened {
-            return Done {
-                lane: self,
-                answer: Answer::Refused(Refusal::NotOpen),
-            };
-        }
-        if units::outside(deadline, was.deadline) {
-            return Done {
-                lane: self,
-                answer: Answer::Refused(Refusal::BadDeadline),
-            };
-        }
-        let mut cells = self.cells;
-        let mut k: usize = 16;
-        let mut i: usize = 16;
-        while 0 < i {
-            i -= 1;
-            let c = cells[f * 16 + i];
-            if !c.held {
-                k = i;
+        match self.to_offer(flow, deadline) {
+            Ok((f, place)) => {
+                let number = self.flows[f].next;
+                let last = last_of(self.now, deadline);
+                self.flows[f].next = number.wrapping_add(1);
+                self.cells[place] = Cell {
+                    held: true,
+                    number,
+                    last,
+                };
+                Done {
+                    lane: self,
+                    answer: Answer::Accepted(number, last),
+                }
             }
+            Err(refusal) => self.refused(refusal),
         }
-        if 16 <= k {
-            return Done {
-                lane: self,
-                answer: Answer::Refused(Refusal::PlacesFull),
-            };
+    }
+
+    // The flow of a cell that is offered and the place that it takes, or why it is not taken.
+    #[tactic(auto, unfolding(crate::specs::Calls::offer_of, units::specs::Refusals::first_of))]
+    fn to_offer(&self, flow: u64, deadline: u64) -> Result<(usize, usize), Refusal>
+        ensures { MatchResult result (λ taken. Takes self.entry.now flow deadline taken.0 taken.1) (λ refusal. offer_of self.entry.now flow deadline ≡ refused self.entry.now refusal) }
+    {
+        let f = units::flow_index(flow)?;
+        if !self.flows[f].opened {
+            return Err(Refusal::NotOpen);
         }
+        if units::outside(deadline, self.flows[f].deadline) {
+            return Err(Refusal::BadDeadline);
+        }
+        let Some(k) = places::first_free(&ByLastSlot, self.places(f)) else {
+            return Err(Refusal::PlacesFull);
+        };
         if window_passes(self.now, deadline) {
-            return Done {
-                lane: self,
-                answer: Answer::Refused(Refusal::SlotsUsedUp),
-            };
+            return Err(Refusal::SlotsUsedUp);
         }
-        let last = last_of(self.now, deadline);
-        cells[f * 16 + k] = Cell {
-            held: true,
-            number: was.next,
-            last: last,
-        };
-        let next = std::num::wrapping_add_u64(was.next, 1);
-        flows[f] = Flow {
-            opened: true,
-            deadline: was.deadline,
-            next: next,
-        };
-        let now = self.now;
-        Done {
-            lane: Urgent { now, flows, cells },
-            answer: Answer::Accepted(was.next, last),
-        }
+        Ok((f, f * 16 + k))
     }
 }

@@ -1,22 +1,8 @@
 // Slots are compared and counted here, and nowhere else in the lane.
-ghost use Rattle.std.specs.Prelude.{◌≡◌, ◌+◌, ◌-◌, ◌<◌, ◌≤◌, ◌==◌, nat_le, nat_lt};
+ghost use Rattle.std.specs.Prelude.{◌≡◌, ◌+◌, ◌-◌, ◌<◌, ◌≤◌, nat_le, nat_lt};
 ghost use Rattle.units.specs.Limits.{slot_limit};
 
 use units::{SLOT_LIMIT, Slot};
-
-// Whether slot a comes before slot b.
-pub(crate) fn earlier(a: Slot, b: Slot) -> bool
-    ensures { result ≡ nat_lt a.0 b.0 }
-{
-    a.0 < b.0
-}
-
-// Whether a and b are one slot.
-pub(crate) fn same(a: Slot, b: Slot) -> bool
-    ensures { result ≡ (a.0 == b.0) }
-{
-    a.0 == b.0
-}
 
 // Whether no turn is left at this slot.
 pub(crate) fn used_up(now: Slot) -> bool

@@ -1,10 +1,7 @@
--- By the answer that the queue gave.
-use Rattle.std.proofs.Common.{rules}
-use Rattle.fair.proofs.Calls.{close_no, close_ok}
+-- The lane has the flows that the queue gave.
+use Rattle.std.proofs.Common.{sym, ◌∙◌}
+use Rattle.fair.proofs.Calls.{closes}
 use Rattle.fair.proofs.Fair.close.Goals as goal
 
-pub returns-in_default : goal.returns-in_default
-returns-in_default c = close_no c.args.self c.args.flow c.close-kept.result c.close-kept.ensures (search rules)
-
 pub returns : goal.returns
-returns c = close_ok c.args.self c.args.flow c.close-kept.result c.close-kept.ensures
+returns c = rw (c.close-answer.ensures.answer, c.close-answer.ensures.flows) (sym (closes c.args.self c.args.flow))

@@ -1,0 +1,31 @@
+// Which of a flow's packets goes first.
+ghost use Rattle.std.specs.Prelude.{◌≡◌};
+
+use places::{Key, Ranking};
+use tags::Packet;
+
+// The packets of a flow are taken by number.
+pub(crate) struct ByNumber;
+
+impl Ranking<Packet> for ByNumber {
+    ghost use Rattle.tags.specs.Tags.{is_held};
+    ghost use Rattle.taking.specs.Taking.{by_number};
+
+    ghost held = { λ _ p. is_held p };
+
+    ghost key = { λ _ place p. by_number place p };
+
+    // A packet that holds its place waits.
+    fn waits(&self, packet: Packet) -> bool {
+        packet.held
+    }
+
+    // Of packets with one number, which no lane has, the first place would go first.
+    fn key_at(&self, place: usize, packet: Packet) -> Key {
+        Key {
+            rank: packet.number,
+            flow: 0,
+            number: place as u64,
+        }
+    }
+}
