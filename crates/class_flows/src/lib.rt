@@ -5,25 +5,19 @@ ghost use Rattle.std.specs.Prelude.{◌≡◌};
 ghost use Rattle.classes.specs.Calls.{open_of, close_of};
 
 use classes::{Answer, Classes, Done};
-use packets::Queue;
 
 // Opens a flow with a weight, which is its weight among the children of its class.
-pub fn open(lane: Classes, flow: u64, weight: u64) -> Done
+pub fn open(mut lane: Classes, flow: u64, weight: u64) -> Done
     ensures { result ≡ open_of lane flow weight }
 {
-    let kept = flows::open(&lane.queue, flow, weight);
-    if let packets::Answer::Refused(refusal) = kept.answer {
+    if let packets::Answer::Refused(refusal) = flows::open(&mut lane.queue, flow, weight) {
         return Done {
             lane,
             answer: Answer::Refused(refusal),
         };
     }
+    let queue = lane.queue;
     let tree = lane.tree.weigh(flow, weight);
-    let flows = kept.flows;
-    let queue = Queue {
-        flows,
-        ..lane.queue
-    };
     Done {
         lane: Classes { tree, queue },
         answer: Answer::Opened,
@@ -31,23 +25,12 @@ pub fn open(lane: Classes, flow: u64, weight: u64) -> Done
 }
 
 // Closes a flow that has no packet waiting and none in service.
-pub fn close(lane: Classes, flow: u64) -> Done
+pub fn close(mut lane: Classes, flow: u64) -> Done
     ensures { result ≡ close_of lane flow }
 {
-    let kept = flows::close(&lane.queue, flow);
-    if let packets::Answer::Refused(refusal) = kept.answer {
-        return Done {
-            lane,
-            answer: Answer::Refused(refusal),
-        };
-    }
-    let flows = kept.flows;
-    let queue = Queue {
-        flows,
-        ..lane.queue
+    let answer = match flows::close(&mut lane.queue, flow) {
+        packets::Answer::Refused(refusal) => Answer::Refused(refusal),
+        _ => Answer::Closed,
     };
-    Done {
-        lane: Classes { queue, ..lane },
-        answer: Answer::Closed,
-    }
+    Done { lane, answer }
 }

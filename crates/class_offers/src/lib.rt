@@ -8,27 +8,32 @@ use classes::{Answer, Classes, Done};
 use packets::Quote;
 use units::Tag;
 
+// A packet of a class has no tags of its own.
+const UNTAGGED: Quote = Quote {
+    start: Tag(0),
+    finish: Tag(0),
+};
+
 // Offers a packet of a flow, of this length in bytes: each class above the flow counts it, and it is answered its number.
-pub fn offer(lane: Classes, flow: u64, length: u64) -> Done
+pub fn offer(mut lane: Classes, flow: u64, length: u64) -> Done
     ensures { result ≡ offer_of lane flow length }
 {
-    let was = lane.queue.flow_at(flow);
-    let untagged = Quote {
-        fits: true,
-        start: Tag(0),
-        finish: Tag(0),
-    };
-    let kept = queue::put(lane.queue, flow, length, untagged);
-    let queue = kept.queue;
-    if let packets::Answer::Refused(refusal) = kept.answer {
+    let number = lane.queue.flow_at(flow).next;
+    if let packets::Answer::Refused(refusal) = queue::put(
+        &mut lane.queue,
+        flow,
+        length,
+        Some(UNTAGGED),
+    ) {
         return Done {
-            lane: Classes { queue, ..lane },
+            lane,
             answer: Answer::Refused(refusal),
         };
     }
+    let queue = lane.queue;
     let tree = ascent::offer(lane.tree, flow);
     Done {
         lane: Classes { tree, queue },
-        answer: Answer::Taken(was.next),
+        answer: Answer::Taken(number),
     }
 }

@@ -3,7 +3,7 @@
 use mathlib.Core.Path.{◌≡◌, refl, sym, ap, ◌∙◌}
 use mathlib.Core.Bool.{Bool, true, false}
 use mathlib.Core.List.{[], ◌∷◌}
-use Rattle.std.proofs.Common.{Option, None}
+use Rattle.std.proofs.Common.{Option, None, Some}
 use Prim.Native.Nat.{ℕ}
 use Rattle.units.specs.Refusals.{first_of, unless}
 use Rattle.units.specs.declared.Refusal.{Refusal}
@@ -79,6 +79,13 @@ kept_same q o d p r e =
     unless_same (refused_in q) (λ (x : Kept). refusal_in x.answer) (λ (x : Kept). x.queue) q (λ s. refl) o d
     (λ s t. absurd (none_is_none s (sym p ∙ t))) r (ap refusal_in e)
 
+-- and one that refuses a call on its flows
+flows_same : (q : Queue) (o : Option Refusal) (d : Flows) → refusal_in d.answer ≡ None → (r : Refusal) → (unless (refused_flows q) o d).answer ≡ RefusedIn r
+    → queue_with q (unless (refused_flows q) o d) ≡ q
+flows_same q o d p r e =
+    unless_same (refused_flows q) (λ (x : Flows). refusal_in x.answer) (queue_with q) q (λ s. refl) o d
+    (λ s t. absurd (none_is_none s (sym p ∙ t))) r (ap refusal_in e)
+
 module _ (u : Classes) where
   pub open_by : (flow weight : ℕ) (d : Flows) → d ≡ open_in u.queue flow weight → (t : Tree)
       → t ≡ with_node u.tree (node_of flow) (weighed_node weight (node_at u.tree (node_of flow)))
@@ -89,6 +96,15 @@ module _ (u : Classes) where
       (by_flows u (first_of (opening_grounds flow weight (flow_at u.queue flow))) (opened u flow weight) (opened_in u.queue flow weight) refl
       (λ (x : Flows). done (with_node u.tree (node_of flow) (weighed_node weight (node_at u.tree (node_of flow)))) (queue_with u.queue x) Opened) refl)
 
+  -- an opening or a closing that the queue refuses, with the queue that it leaves
+  pub open_back : (flow weight : ℕ) (d : Flows) → d ≡ open_in u.queue flow weight → (r : Refusal) → d.answer ≡ RefusedIn r
+      → done u.tree (queue_with u.queue d) (Refused r) ≡ open_of u flow weight
+  unfolding open_in
+  open_back flow weight d e r p =
+      let same : queue_with u.queue (open_in u.queue flow weight) ≡ u.queue = flows_same u.queue (first_of (opening_grounds flow weight (flow_at u.queue flow))) (opened_in u.queue flow weight) refl r (rw e at p) in
+      ap (λ (x : Queue). done u.tree x (Refused r)) (ap (queue_with u.queue) e ∙ same)
+      ∙ (open_by flow weight d e (with_node u.tree (node_of flow) (weighed_node weight (node_at u.tree (node_of flow)))) refl).0 r p
+
   pub close_by : (flow : ℕ) (d : Flows) → d ≡ close_in u.queue flow
       → ByAnswer u d.answer (done u.tree (queue_with u.queue d) Closed) (close_of u flow)
   unfolding close_of close_in
@@ -97,7 +113,14 @@ module _ (u : Classes) where
       (by_flows u (first_of (close_grounds u flow)) (closed u flow) (closed_in u.queue flow) refl
       (λ (x : Flows). done u.tree (queue_with u.queue x) Closed) refl)
 
-  pub offer_by : (flow length : ℕ) (d : Kept) → d ≡ put_of u.queue flow length untagged → (t : Tree) → t ≡ offered_to u.tree flow
+  pub close_back : (flow : ℕ) (d : Flows) → d ≡ close_in u.queue flow → (r : Refusal) → d.answer ≡ RefusedIn r
+      → done u.tree (queue_with u.queue d) (Refused r) ≡ close_of u flow
+  unfolding close_in
+  close_back flow d e r p =
+      let same : queue_with u.queue (close_in u.queue flow) ≡ u.queue = flows_same u.queue (first_of (close_grounds u flow)) (closed_in u.queue flow) refl r (rw e at p) in
+      ap (λ (x : Queue). done u.tree x (Refused r)) (ap (queue_with u.queue) e ∙ same) ∙ (close_by flow d e).0 r p
+
+  pub offer_by : (flow length : ℕ) (d : Kept) → d ≡ put_of u.queue flow length (Some untagged) → (t : Tree) → t ≡ offered_to u.tree flow
       → ByAnswer u d.answer (done t d.queue (Taken (flow_at u.queue flow).next)) (offer_of u flow length)
   unfolding offer_of put_of
   offer_by flow length d e t f =
@@ -106,11 +129,11 @@ module _ (u : Classes) where
       (λ (x : Kept). done (offered_to u.tree flow) x.queue (Taken (flow_at u.queue flow).next)) refl)
 
   -- an offer that the queue refuses, with the queue that it hands back
-  pub offer_back : (flow length : ℕ) (d : Kept) → d ≡ put_of u.queue flow length untagged → (r : Refusal) → d.answer ≡ RefusedIn r
+  pub offer_back : (flow length : ℕ) (d : Kept) → d ≡ put_of u.queue flow length (Some untagged) → (r : Refusal) → d.answer ≡ RefusedIn r
       → done u.tree d.queue (Refused r) ≡ offer_of u flow length
   unfolding put_of
   offer_back flow length d e r p =
-      let same : (put_of u.queue flow length untagged).queue ≡ u.queue = kept_same u.queue (first_of (put_grounds u.queue flow length untagged)) (placed u.queue flow length untagged) refl r (rw e at p) in
+      let same : (put_of u.queue flow length (Some untagged)).queue ≡ u.queue = kept_same u.queue (first_of (put_grounds u.queue flow length (Some untagged))) (placed u.queue flow length untagged) refl r (rw e at p) in
       ap (λ (x : Queue). done u.tree x (Refused r)) (ap (λ (x : Kept). x.queue) e ∙ same)
       ∙ (offer_by flow length d e (offered_to u.tree flow) refl).0 r p
 

@@ -57,7 +57,7 @@ close_of u flow = unless (refused u) (first_of (close_grounds u flow)) (closed u
 
 -- a packet of a class has no tags of its own: those of its flow and of the classes above it are kept in the tree
 abbrev pub untagged : Quote
-untagged = record { fits = true; start = no_tag; finish = no_tag }
+untagged = record { start = no_tag; finish = no_tag }
 
 -- offering: the packet is put, each node above it counts it, and it is answered its number
 abbrev pub taken : Classes → ℕ → ℕ → Done

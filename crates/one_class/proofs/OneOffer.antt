@@ -2,8 +2,9 @@
 -- both. Where nothing of the flow waits, its node starts where the packet does: the flow's last packet is the one last begun, so that both are
 -- told the same finish. Where something waits, the first packet that waits is the same as before, and the node stays.
 use mathlib.Core.Path.{◌≡◌, refl, sym, ap, ◌∙◌, subst}
-use mathlib.Core.Bool.{Bool, true, false, cond}
-use Rattle.std.proofs.Common.{Option, Some}
+use mathlib.Core.Bool.{Bool, true, false, cond, true≢false}
+use Rattle.std.proofs.Common.{Option, None, Some}
+use Rattle.std.specs.Option.{is_none}
 use Prim.Native.Nat.{ℕ, ◌+◌, ◌≤◌, ◌<◌}
 use native.Mathlib.Omega.{arith}
 use borrow.Author.Tests.{eqb-true, eqb-false, ne_eqb, le-ltb, ltb-false, leb-false, not-false}
@@ -26,8 +27,8 @@ use Rattle.packets.specs.Kept.{Kept}
 use Rattle.packets.specs.Answers.{refusal_in as fair_refusal}
 use Rattle.packets.specs.Queue.{flow_at, waiting_of, waiting}
 use Rattle.packets.specs.Quotes.{quote_of}
-use Rattle.packets.specs.Calls.{refused as refused_in, placed, put_grounds, put_of}
-use Rattle.packets.proofs.Quotes.{fitting, fits_told, quoted_first}
+use Rattle.packets.specs.Calls.{refused as refused_in, placed, placed_by, put_grounds, put_of}
+use Rattle.packets.proofs.Quotes.{fitting, quote_told, quoted_first}
 use Rattle.fair.specs.declared.Fair.{Fair}
 use Rattle.fair.specs.Calls.{with_queue, by_queue, offer_of as fair_offer}
 use Rattle.fair.proofs.Refused.{refused_first}
@@ -182,11 +183,11 @@ unfolding offer_of fair_offer put_of
 told_offer t v h o g flow bytes fits =
     by_grounds
     (λ (r s : Option Refusal).
-    let e = by_queue v v.time v.largest (unless (refused_in v.queue) s (placed v.queue flow bytes quote)) in
+    let e = by_queue v v.time v.largest (unless (refused_in v.queue) s (placed_by v.queue flow bytes quote)) in
     Told (unless (refused (beside t v)) r (taken (beside t v) flow bytes)) e (note_offer h flow bytes e.answer))
     (first_of (offer_grounds (beside t v) flow bytes)) (put_grounds v.queue flow bytes quote) same (λ r. (refl, refl, o)) go
   where
-    quote : Quote
+    quote : Option Quote
     quote = quote_of (flow_at v.queue flow) v.time bytes
 
     same : first_of (offer_grounds (beside t v) flow bytes) ≡ first_of (put_grounds v.queue flow bytes quote)
@@ -195,14 +196,19 @@ told_offer t v h o g flow bytes fits =
         (first_plus TagsUsedUp _ (waiting_grounds flow (flow_at v.queue flow) (waiting_of v.queue flow) bytes)
         (λ e. fits ((refused_first v).offering flow bytes ∙ sym (quoted_first v.queue flow v.time bytes) ∙ e)))
 
-    go : NoneHolds (put_grounds v.queue flow bytes quote)
-        → Told (taken (beside t v) flow bytes) (with_queue v.time v.largest (placed v.queue flow bytes quote)) (note_offer h flow bytes (placed v.queue flow bytes quote).answer)
-    go n =
-        let told = fits_told (flow_at v.queue flow) v.time bytes n.1.1.0 (not-false quote.fits n.1.1.1.1.0) in
-        subst
-        (λ (x : Quote).
-        let e = with_queue v.time v.largest (placed v.queue flow bytes x) in
-        Told (taken (beside t v) flow bytes) e (note_offer h flow bytes e.answer))
-        (sym told.2)
+    -- what a packet with this quote leaves in both lanes
+    Both : Option Quote → Type 0
+    Both x =
+        let e = with_queue v.time v.largest (placed_by v.queue flow bytes x) in
+        Told (taken (beside t v) flow bytes) e (note_offer h flow bytes e.answer)
+
+    by_quote : NoneHolds (put_grounds v.queue flow bytes quote) → (x : Option Quote) → quote ≡ x → is_none x ≡ false → Both x
+    by_quote n None e p = absurd (true≢false p)
+    by_quote n (Some x) e p =
+        let told = quote_told (flow_at v.queue flow) v.time bytes n.1.1.0 x e in
+        subst (λ (y : Quote). Both (Some y)) (sym told.2)
         (told_taken t v h o g flow bytes (ltb-false 15 flow n.0) (not-false (flow_at v.queue flow).opened n.1.0) (leb-false 16 (waiting_of v.queue flow) n.1.1.1.0)
         (ltb-false _ _ told.1))
+
+    go : NoneHolds (put_grounds v.queue flow bytes quote) → Both quote
+    go n = by_quote n quote refl n.1.1.1.1.0

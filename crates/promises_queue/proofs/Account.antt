@@ -1,5 +1,6 @@
 -- What the calls keep of a queue says of the promises: a begin takes the packet that goes first by the queue's rank, places and numbers are in
 -- order, an end is of the packet last begun, and each call is refused as the calls and answers so far tell.
+use Rattle.std.specs.Option.{is_none}
 use mathlib.Core.Path.{◌≡◌, refl, ap, ◌∙◌}
 use mathlib.Core.Bool.{true, not}
 use mathlib.Core.List.{[], ◌∷◌, ◌++◌}
@@ -73,7 +74,7 @@ module _ {q : Queue} {h : Packets} (g : QueueGood q h) where
             ));
         putting = λ flow length quote.
             (refused_first q).putting flow length quote
-            ∙ offer_noted flow length (TagsUsedUp, not quote.fits) (TagsUsedUp, not quote.fits) (λ l. refl);
+            ∙ offer_noted flow length (TagsUsedUp, is_none quote) (TagsUsedUp, is_none quote) (λ l. refl);
         beginning = λ rank. (refused_first q).beginning rank ∙ rw (busy, waiting_all k);
         ending = (refused_first q).ending ∙ rw busy;
       }

@@ -1,5 +1,5 @@
 -- What a call is refused for, read off the calls and answers so far and not off the queue.
-use Rattle.std.specs.Prelude.{◌≡◌, not, ◌&&◌, ◌||◌, List, [], ◌∷◌, ◌++◌, ℕ, leb, ltb, eqb}
+use Rattle.std.specs.Prelude.{◌≡◌, not, ◌&&◌, ◌||◌, List, [], ◌∷◌, ◌++◌, ℕ, leb, ltb, eqb, Option, is_none}
 use Rattle.units.specs.Limits.{place_count, no_such_flow, bad_weight, bad_length}
 use Rattle.units.specs.Refusals.{Ground, first_of}
 use Rattle.units.specs.declared.Refusal.TheVariants.{NoSuchFlow, NotOpen, AlreadyOpen, PlacesFull, TagsUsedUp, PacketInService, NothingWaits, NothingInService, FlowInUse, BadWeight, BadLength}
@@ -46,12 +46,12 @@ begin_noted h = (PacketInService, in_service h.moments) ∷ (NothingWaits, eqb (
 abbrev pub end_noted : Packets → List Ground
 end_noted h = (NothingInService, not (in_service h.moments)) ∷ []
 
--- Each call is refused exactly as the calls and answers so far tell, a packet that is put also where its quote does not fit.
+-- Each call is refused exactly as the calls and answers so far tell, a packet that is put also where it is quoted none.
 pub record RefusedAsNoted (q : Queue) (h : Packets) : Type 0 where
   pub opening : (flow weight : ℕ) → refusal_in (open_of q flow weight).answer ≡ first_of (opening_noted h flow weight)
   pub closing : (flow : ℕ) → refusal_in (close_of q flow).answer ≡ first_of (closing_noted h flow)
   pub putting :
-      (flow length : ℕ) (quote : Quote)
-      → refusal_in (put_of q flow length quote).answer ≡ first_of (waiting_noted h flow length ++ (TagsUsedUp, not quote.fits) ∷ [])
+      (flow length : ℕ) (quote : Option Quote)
+      → refusal_in (put_of q flow length quote).answer ≡ first_of (waiting_noted h flow length ++ (TagsUsedUp, is_none quote) ∷ [])
   pub beginning : (rank : Rank) → refusal_in (begin_by rank q).answer ≡ first_of (begin_noted h)
   pub ending : refusal_in (end_of q).answer ≡ first_of (end_noted h)

@@ -36,11 +36,7 @@ pub fn offered_root(x: Node) -> Node
 pub fn passes(x: Node, length: u64) -> bool
     ensures { result ≡ is_beyond (finish_for x length) }
 {
-    let finish = tags::finish_of(x.start, length, x.weight);
-    let Some(_) = finish else {
-        return true;
-    };
-    false
+    tags::finish_of(x.start, length, x.weight).is_none()
 }
 
 // A child below which a packet of this length is begun.

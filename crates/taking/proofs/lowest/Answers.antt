@@ -1,7 +1,7 @@
 -- Each return is the case of taking that its tests lead to.
 use Rattle.std.proofs.Common.{◌≡◌, sym, ◌∙◌}
 use Rattle.taking.proofs.Laws.{take_8, take_9, take_no_flow, take_ok}
-use Rattle.taking.proofs.to_take.Goals as goal
+use Rattle.taking.proofs.lowest.Goals as goal
 
 pub returns-then-queue : goal.returns-then-queue
 returns-then-queue c = take_8 c.args.queue.now c.args.flow c.if-queue.true
