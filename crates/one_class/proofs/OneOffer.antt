@@ -199,7 +199,7 @@ told_offer t v h o g flow bytes fits =
     -- what a packet with this quote leaves in both lanes
     Both : Option Quote → Type 0
     Both x =
-        let e = with_queue v.time v.largest (placed_by v.queue flow bytes x) in
+        let e = by_queue v v.time v.largest (placed_by v.queue flow bytes x) in
         Told (taken (beside t v) flow bytes) e (note_offer h flow bytes e.answer)
 
     by_quote : NoneHolds (put_grounds v.queue flow bytes quote) → (x : Option Quote) → quote ≡ x → is_none x ≡ false → Both x
