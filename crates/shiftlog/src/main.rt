@@ -21,14 +21,18 @@ fn main(rt: HostRuntime) {
     let n = streams::fill(&mut stdin, &mut input);
     let line = line_end(&input[..n]);
     let start = (line + 1).min(n);
-    match log_commands::parse(&input[..line]) {
+    // What could not be written has been told.
+    let _ = match log_commands::parse(&input[..line]) {
         Some(Command::Check) => check(&rt, &input[start..n]),
         Some(Command::Show) => show(&rt, &input[start..n]),
         Some(Command::Write) => write(&rt, &mut input, start, n),
         Some(Command::Diff(first)) => compare(&rt, &input[start..n], first),
         Some(Command::Tail(first)) => tail(&rt, &input[start..n], first),
-        None => tell(&rt, b"shiftlog: there is no such command\n"),
-    }
+        None => {
+            tell(&rt, b"shiftlog: there is no such command\n");
+            Ok(())
+        }
+    };
 }
 
 // Where the first line ends: at its line feed, or with the input.

@@ -1,10 +1,12 @@
 // What the program writes.
-// Writes bytes and answers true, or tells that it could not and answers false.
-pub(crate) fn answer(rt: &HostRuntime, bytes: &[u8]) -> bool {
+use std::io;
+
+// Writes bytes; where it could not, that is told.
+pub(crate) fn answer(rt: &HostRuntime, bytes: &[u8]) -> io::Result<()> {
     let mut output = rt.stdout();
     let mut error = rt.stderr();
     let line = b"shiftlog: the output could not be written\n";
-    streams::put_or_tell(&mut output, bytes, &mut error, line).is_ok()
+    streams::put_or_tell(&mut output, bytes, &mut error, line)
 }
 
 // Tells a line on standard error.
