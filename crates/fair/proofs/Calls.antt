@@ -3,15 +3,13 @@
 use Rattle.std.proofs.Common.{◌≡◌, ℕ, ◌<◌, refl, ap, arith, eq-eqb, ne_eqb}
 use Rattle.units.specs.declared.Tag.{Tag}
 use Rattle.packets.specs.Kept.{Kept, Flows}
-use Rattle.packets.specs.declared.Answer.{Answer}
-use Rattle.packets.specs.declared.Answer.TheVariants.{Opened, Closed, Begun, Ended}
+use Rattle.packets.specs.declared.Answer.TheVariants.{Begun, Ended}
 use Rattle.packets.specs.Queue.{flow_at, waiting, by_start}
 use Rattle.packets.specs.Quotes.{quote_of}
 use Rattle.packets.specs.Calls.{open_of as open_in, close_of as close_in, begin_by, begun as begun_in, end_of as end_in}
 use Rattle.places.specs.Choice.{at}
 use Rattle.packets.proofs.Cases.{open_cases, close_cases, put_cases, begin_cases, end_cases}
 use Rattle.fair.specs.declared.Fair.{Fair}
-use Rattle.fair.specs.declared.Done.{Done}
 use Rattle.fair.specs.Lane.{largest_ended}
 use Rattle.fair.specs.Calls.{with_flows, by_flows, with_queue, by_queue, open_of, close_of, stamped, offer_of, begun, begin_of, time_left, end_of}
 

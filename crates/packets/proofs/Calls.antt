@@ -1,19 +1,19 @@
 -- Each case of what a call gives, from the tests that lead to it.
-use mathlib.Core.Path.{◌≡◌, refl, sym, ap, ◌∙◌}
-use mathlib.Core.Bool.{Bool, true, false, not}
+use mathlib.Core.Path.{◌≡◌, refl, ap, ◌∙◌}
+use mathlib.Core.Bool.{Bool, true, false}
 use mathlib.Core.List.{List, [], ◌∷◌}
 use Rattle.std.proofs.Common.{Option, None, Some, MatchResult}
 use Rattle.std.specs.Option.{ok_or}
-use Prim.Native.Nat.{ℕ, ◌+◌, ◌*◌, ◌%◌, ◌^◌, ◌≤◌, ◌<◌}
+use Prim.Native.Nat.{ℕ, ◌*◌, ◌≤◌, ◌<◌}
 use native.Mathlib.Omega.{arith}
 use borrow.Author.Tests.{lt-ltb, le-ltb, le-leb, lt-leb, eq-eqb, ne_eqb}
 use lib.Dec.{eqb}
-use lib.ListN.{length, set}
+use lib.ListN.{length}
 use Rattle.units.specs.Limits.{place_count, bad_weight, bad_length}
 use Rattle.units.specs.Refusals.{first_of, unless}
-use Rattle.units.specs.declared.Refusal.TheVariants.{NoSuchFlow, NotOpen, AlreadyOpen, PlacesFull, TagsUsedUp, PacketInService, NothingWaits, NothingInService, FlowInUse, BadWeight, BadLength}
+use Rattle.units.specs.declared.Refusal.TheVariants.{NoSuchFlow, AlreadyOpen, PlacesFull, TagsUsedUp, PacketInService, NothingWaits, BadWeight}
 use Rattle.places.specs.Places.{count, places_of, first_free}
-use Rattle.places.specs.Choice.{nothing, at, chosen_of}
+use Rattle.places.specs.Choice.{at, chosen_of}
 use Rattle.places.proofs.Free.{none_left, free_left, part_length}
 use Rattle.places.proofs.Scan.{chosen_at, chosen_none}
 use Rattle.places.proofs.Least.{none_held, some_held}
@@ -22,9 +22,8 @@ use Rattle.tags.specs.Tags.{free_packet, is_held}
 use Rattle.packets.specs.declared.Queue.{Queue}
 use Rattle.packets.specs.declared.Quote.{Quote}
 use Rattle.packets.specs.Kept.{Kept}
-use Rattle.packets.specs.declared.Answer.TheVariants.{Accepted}
-use Rattle.packets.specs.Queue.{flow_at, waiting_of, waiting, busy_with, Rank, key_by, chosen_by}
-use Rattle.packets.specs.Calls.{refused_flows, refused, opened, open_of, closed, close_of, placed, put_of, begun, begin_by, ended, end_of}
+use Rattle.packets.specs.Queue.{flow_at, waiting, Rank, key_by, chosen_by}
+use Rattle.packets.specs.Calls.{refused_flows, refused, opened, open_of, placed, put_of, begun, begin_by}
 
 module _ (q : Queue) (flow weight : ℕ) where
   pub open_1 : 15 < flow → refused_flows q NoSuchFlow ≡ open_of q flow weight

@@ -17,7 +17,7 @@ use Rattle.tags.specs.Grounds.{opening_grounds, closing_grounds}
 use Rattle.packets.specs.declared.Queue.{Queue}
 use Rattle.packets.specs.Kept.{Kept, Flows}
 use Rattle.packets.specs.Queue.{flow_at, waiting_of, waiting, busy_with, Rank, key_by, chosen_by, begin_grounds, end_grounds}
-use Rattle.packets.specs.Calls.{refused_flows, refused, opened, open_of, closed, close_of, placed, placed_by, put_grounds, put_of, begun, begin_by, ended, end_of}
+use Rattle.packets.specs.Calls.{refused_flows, refused, opened, open_of, closed, close_of, placed, put_grounds, put_of, begun, begin_by, ended, end_of}
 use Rattle.packets.specs.Answers.{refusal_in}
 use Rattle.packets.specs.Laws.{RefusedFirst}
 

@@ -1,5 +1,5 @@
 -- The tags that a packet would get where it is offered.
-use Rattle.std.specs.Prelude.{true, false, cond, ℕ, ltb, Option, None, Some}
+use Rattle.std.specs.Prelude.{cond, ℕ, ltb, Option, None, Some}
 use Rattle.units.specs.Limits.{tag_limit}
 use Rattle.units.specs.declared.Tag.{Tag}
 use Rattle.tags.specs.declared.Flow.{Flow}

@@ -104,9 +104,7 @@ impl Queue {
     {
         places::count_waiting(&ByStart, self.places(flow)) as u64
     }
-}
 
-impl Queue {
     // The packet that waits in a place goes into service, and leaves its place free.
     pub fn serve(&mut self, place: usize, packet: Packet) -> Answer
         ensures answer { result ≡ (begun self.old (at place packet)).answer }

@@ -1,5 +1,5 @@
 -- An offer that its flow's tests let through: refused for want of a place or of slots, or taken.
-use Rattle.std.proofs.Common.{◌≡◌, ℕ, ◌+◌, ◌*◌, ◌≤◌, ◌<◌, true, false, ltb, List, length, refl, sym, ◌∙◌, arith, le-ltb, le-leb, ltb-false, rules}
+use Rattle.std.proofs.Common.{◌≡◌, ℕ, ◌+◌, ◌*◌, ◌≤◌, ◌<◌, true, false, ltb, List, length, refl, arith, le-ltb, le-leb, ltb-false}
 use borrow.Author.Tests.{lt-leb}
 use Rattle.units.specs.Limits.{place_count, slot_limit, outside_of}
 use Rattle.units.specs.Refusals.{first_of}
@@ -10,7 +10,7 @@ use Rattle.places.proofs.Free.{none_left, free_left, part_length}
 use Rattle.urgent.specs.declared.Cell.{Cell}
 use Rattle.urgent.specs.declared.Urgent.{Urgent}
 use Rattle.urgent.specs.Lane.{is_held, free_cell, flow_at}
-use Rattle.urgent.specs.Calls.{refused, accepted, offer_of}
+use Rattle.urgent.specs.Calls.{refused, offer_of}
 use Rattle.urgent.specs.Taken.{Takes}
 
 module _ (u : Urgent) (flow deadline : ℕ) (h : flow ≤ 15) (l : length u.cells ≡ 256)

@@ -1,8 +1,6 @@
 -- Each return is the case of `put_of` that its tests lead to.
-use Rattle.std.proofs.Common.{◌≡◌, ◌<◌, length, sym, ◌∙◌, arith, rules}
-use Rattle.places.specs.Places.{first_free}
-use Rattle.tags.specs.Tags.{is_held}
-use Rattle.packets.proofs.Calls.{ps, long, put_5, put_6, put_ok}
+use Rattle.std.proofs.Common.{◌≡◌, length, sym, ◌∙◌, arith, rules}
+use Rattle.packets.proofs.Calls.{long, put_5, put_6, put_ok}
 use Rattle.queue.proofs.to_put.Goals as goal
 
 pub returns-in_default : goal.returns-in_default

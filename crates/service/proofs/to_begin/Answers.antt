@@ -1,5 +1,4 @@
 -- Each return is the case of a begin that its tests lead to.
-use Rattle.std.proofs.Common.{rules}
 use Rattle.packets.specs.Queue.{by_start}
 use Rattle.packets.proofs.Calls.{begin_8, begin_first}
 use Rattle.service.proofs.to_begin.Goals as goal

@@ -1,5 +1,5 @@
 -- By the answer that the queue gave, in which virtual time stands.
-use Rattle.std.proofs.Common.{◌≡◌, sym, ◌∙◌}
+use Rattle.std.proofs.Common.{sym, ◌∙◌}
 use Rattle.fair.proofs.Calls.{begins, begins_not}
 use Rattle.fair.proofs.Fair.begin.Goals as goal
 

@@ -1,5 +1,5 @@
 -- The lane has the flows that the queue gave.
-use Rattle.std.proofs.Common.{sym, ◌∙◌}
+use Rattle.std.proofs.Common.{sym}
 use Rattle.fair.proofs.Calls.{closes}
 use Rattle.fair.proofs.Fair.close.Goals as goal
 

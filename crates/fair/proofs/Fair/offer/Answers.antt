@@ -1,5 +1,5 @@
 -- The packet is put with the quote of its flow's record and of virtual time.
-use Rattle.std.proofs.Common.{sym, ◌∙◌}
+use Rattle.std.proofs.Common.{sym}
 use Rattle.fair.proofs.Calls.{offers}
 use Rattle.fair.proofs.Fair.offer.Goals as goal
 

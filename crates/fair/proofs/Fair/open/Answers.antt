@@ -1,5 +1,5 @@
 -- The lane has the flows that the queue gave.
-use Rattle.std.proofs.Common.{sym, ◌∙◌}
+use Rattle.std.proofs.Common.{sym}
 use Rattle.fair.proofs.Calls.{opens}
 use Rattle.fair.proofs.Fair.open.Goals as goal
 

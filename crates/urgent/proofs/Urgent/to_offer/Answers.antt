@@ -1,7 +1,5 @@
 -- Each return is the case of `offer_of` that its tests lead to.
-use Rattle.std.proofs.Common.{◌≡◌, length, sym, ◌∙◌, rules, true, false}
-use Rattle.urgent.specs.Lane.{flow_at}
-use Rattle.units.specs.Limits.{outside_of}
+use Rattle.std.proofs.Common.{◌≡◌, length, sym, ◌∙◌, rules}
 use Rattle.urgent.proofs.Calls.{offer_full, offer_late, offer_taken}
 use Rattle.urgent.proofs.Urgent.to_offer.Goals as goal
 
