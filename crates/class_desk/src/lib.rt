@@ -18,7 +18,7 @@ pub struct Desk {
 }
 
 // What a desk is asked.
-#[derive(Clone, Copy)]
+#[derive(Clone, Copy, Debug, PartialEq, Eq)]
 pub enum Command {
     // One class more: the class that it hangs from, and its weight.
     Class(u64, u64),
@@ -30,7 +30,7 @@ pub enum Command {
 }
 
 // What it replies.
-#[derive(Clone, Copy)]
+#[derive(Clone, Copy, Debug, PartialEq, Eq)]
 pub enum Reply {
     Noted,
     Refused(Refusal),

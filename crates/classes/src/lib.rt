@@ -14,7 +14,7 @@ pub struct Classes {
 }
 
 // Every call that a lane answers.
-#[derive(Clone, Copy)]
+#[derive(Clone, Copy, Debug, PartialEq, Eq)]
 pub enum Call {
     // Opens a flow: the flow and its weight.
     Open(u64, u64),
@@ -27,7 +27,7 @@ pub enum Call {
 }
 
 // What a call is answered.
-#[derive(Clone, Copy)]
+#[derive(Clone, Copy, Debug, PartialEq, Eq)]
 pub enum Answer {
     Refused(Refusal),
     Opened,

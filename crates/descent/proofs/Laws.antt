@@ -1,17 +1,13 @@
 -- The cases of the way down.
-use mathlib.Core.Path.{◌≡◌, refl, sym, ap, ◌∙◌}
+use mathlib.Core.Path.{◌≡◌, sym, ap, ◌∙◌}
 use Rattle.std.proofs.Common.{None, Some}
-use mathlib.Core.Bool.{Bool, true, false, ◌&&◌, ◌||◌}
-use mathlib.Core.Logic.{⊎_elim}
 use Prim.Native.Nat.{ℕ, suc, ◌-◌, ◌≤◌, ◌<◌}
-use native.Mathlib.Omega.{arith}
-use borrow.Author.Tests.{eq-eqb, le-ltb, le-leb, lt-leb}
-use lib.Dec.{ltb, eqb}
+use borrow.Author.Tests.{le-leb, lt-leb}
 use Rattle.places.specs.Choice.{Choice, chosen_of}
 use Rattle.places.proofs.Scan.{chosen_at, chosen_none}
 use Rattle.tree.specs.declared.Node.{Node}
 use Rattle.tree.specs.declared.Tree.{Tree}
-use Rattle.descent.specs.Descent.{is_child, key_of, least_child, place_in, on_from, descend_of}
+use Rattle.descent.specs.Descent.{least_child, place_in, on_from, descend_of}
 
 -- what is chosen stands at the place of the child that goes first
 pub place_told : (choice : Choice Node) (k : ℕ) (x : Node) → Some (k, x) ≡ chosen_of choice → k ≡ place_in choice

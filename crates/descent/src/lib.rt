@@ -2,12 +2,12 @@
 #![tactic(auto)]
 
 ghost use Rattle.std.specs.Prelude.{◌≡◌};
-ghost use Rattle.descent.specs.Descent.{least_child, place_in, descend_of, flow_met};
+ghost use Rattle.descent.specs.Descent.{descend_of, flow_met};
 
 use places::{Key, Ranking};
 use tree::{Node, Tree};
 
-// The flow whose packet is begun next, 16 where nothing waits.
+// The flow whose packet is begun next, 16 where nothing waits, as the definition `flow_met` counts, which the choice of the lane names.
 pub fn flow_met(tree: &Tree) -> u64
     ensures { result ≡ flow_met tree.now }
 {
@@ -21,20 +21,10 @@ fn descend(tree: &Tree, class: u64, left: u64) -> u64
     if left == 0 {
         return 16;
     }
-    let k = least_child(tree, class);
-    if 31 <= k {
-        return k - 31;
-    }
-    descend(tree, k, left - 1)
-}
-
-// The place of the class's child that goes first, 47 where none has anything to send.
-fn least_child(tree: &Tree, class: u64) -> u64
-    ensures { result ≡ place_in (least_child tree.now class) }
-{
     match places::first(&ChildrenOf(class), &tree.nodes) {
-        Some((place, _)) => place as u64,
-        None => 47,
+        Some((place, _)) if 31 <= place => place as u64 - 31,
+        Some((place, _)) => descend(tree, place as u64, left - 1),
+        None => 16,
     }
 }
 

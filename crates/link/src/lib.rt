@@ -46,7 +46,7 @@ impl Declaration {
 
 // What is held against a list that is not admitted: the smallest slot count by which too much is due, that its periods bring more cells
 // than there are slots, the refusal of a list that is too long, or the refusal of the first bad declaration with its place, from 0.
-#[derive(Clone, Copy)]
+#[derive(Clone, Copy, Debug, PartialEq, Eq)]
 pub enum Objection {
     FailsAt(u64),
     Rate,

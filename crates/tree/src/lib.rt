@@ -15,7 +15,7 @@ use units::{LAST_FLOW, Tag};
 // What a class or a flow is to the class that it hangs from: that class, its weight there, how many packets wait below it, its start and its
 // last finish.
 #[repr(C)]
-#[derive(Clone, Copy)]
+#[derive(Clone, Copy, Debug, PartialEq, Eq)]
 pub struct Node {
     pub parent: u64,
     pub weight: u64,
@@ -26,7 +26,7 @@ pub struct Node {
 
 // The virtual time of a class, and the largest finish of all that ended below it.
 #[repr(C)]
-#[derive(Clone, Copy)]
+#[derive(Clone, Copy, Debug, PartialEq, Eq)]
 pub struct Class {
     pub time: Tag,
     pub largest: Tag,
