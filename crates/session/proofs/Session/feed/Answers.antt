@@ -37,8 +37,8 @@ loop-b-preserved c =
                   | in-Some-OfferPacket v ↦ by_call s (v.in-Some-OfferPacket.is ∙ ap Some v.in-Some-OfferPacket.field-0-is) v.urgent-is v.fair-is v.answered-is (ap (by_fair s) v.offer-fair.ensures)
                   | in-Some-OpenTurn v ↦ by_call s (v.in-Some-OpenTurn.is ∙ ap Some v.in-Some-OpenTurn.field-0-is) v.urgent-is v.fair-is v.answered-is (ap (by_urgent s) v.turn-urgent.ensures)
                   | in-Some-LostTurn v ↦ by_call s (v.in-Some-LostTurn.is ∙ ap Some v.in-Some-LostTurn.field-0-is) v.urgent-is v.fair-is v.answered-is (ap (by_urgent s) v.turn-urgent-in-Some-LostTurn.ensures)
-                  | in-Some-Begin v ↦ by_call s (v.in-Some-Begin.is ∙ ap Some v.in-Some-Begin.field-0-is) v.urgent-is v.fair-is v.answered-is (ap (by_fair s) v.begin-fair.ensures)
-                  | in-Some-End v ↦ by_call s (v.in-Some-End.is ∙ ap Some v.in-Some-End.field-0-is) v.urgent-is v.fair-is v.answered-is (ap (by_fair s) v.end-fair.ensures)
+                  | in-Some-Begin v ↦ by_call s (v.in-Some-Begin.is ∙ ap Some v.in-Some-Begin.field-0-is) v.urgent-is v.fair-is v.answered-is (ap (by_fair s) (search rules))
+                  | in-Some-End v ↦ by_call s (v.in-Some-End.is ∙ ap Some v.in-Some-End.field-0-is) v.urgent-is v.fair-is v.answered-is (ap (by_fair s) (search rules))
                   | in-None v ↦ by_none l.urgent _ l.fair _ v.in-None.is v.urgent-is v.fair-is v.answered-is
                 ]
                 in
