@@ -1,12 +1,11 @@
 // The verdict on a line, and its own line.
-ghost use Rattle.std.specs.Prelude.{◌≡◌, ◌+◌, ◌≤◌, length, take};
-ghost use Rattle.link.specs.Verdicts.{admit_of};
+ghost use Rattle.std.specs.Prelude.{◌≡◌, ◌+◌, ◌≤◌, length};
 ghost use Rattle.text.specs.Lines.{Put};
 ghost use Rattle.lists.specs.Steps.{judged_by};
 ghost use Rattle.lists.specs.Printing.{verdict_line};
 
 use crate::Reading;
-use link::{Declaration, Objection};
+use link::Objection;
 use units::Refusal;
 
 impl Reading {
@@ -14,29 +13,15 @@ impl Reading {
     pub(crate) fn judged(self) -> Result<(), Objection>
         ensures { result ≡ judged_by self }
     {
-        let hand = self.hand;
-        if !hand.some {
+        if !self.hand.some {
             return Ok(());
         }
-        if !hand.whole() {
+        if !self.hand.whole() {
             return Err(Objection::Refused(Refusal::NoCommand));
         }
-        let filled = self.filled();
-        let items = filled.items;
-        let count = filled.count;
-        if 17 < count {
-            return lend(items, 17);
-        }
-        lend(items, count)
+        let Reading { count, items, .. } = self.filled();
+        admission::admit(&items[..count.min(17)])
     }
-}
-
-// The first count declarations, lent for the test.
-fn lend(items: [Declaration; 17], count: usize) -> Result<(), Objection>
-    requires { count ≤ 17 }
-    ensures { result ≡ admit_of (take count items) }
-{
-    admission::admit(&items[..count])
 }
 
 // Puts the line of a verdict into the output at a place, and answers the place after it.

@@ -36,60 +36,61 @@ impl Hand {
     }
 
     // One byte more: it goes on with the number at hand, ends it, or begins one; anything else spoils the line.
-    fn takes(mut self, b: u8) -> Hand
+    fn takes(self, b: u8) -> Hand
         ensures { result ≡ takes_of self b }
     {
-        self.some = true;
+        let taken = Hand { some: true, ..self };
         if self.begun {
             if b == b' ' {
                 return self.ended();
             }
-            match text::grow(self.value, b) {
-                Some(value) => self.value = value,
-                None => self.bad = true,
-            }
-            return self;
+            return match text::grow(self.value, b) {
+                Some(value) => Hand { value, ..taken },
+                None => Hand { bad: true, ..taken },
+            };
         }
         if b.is_ascii_digit() {
-            self.value = u64::from(b - b'0');
-            self.begun = true;
-            return self;
+            return Hand {
+                begun: true,
+                value: u64::from(b - b'0'),
+                ..taken
+            };
         }
-        self.bad = true;
-        self
+        Hand { bad: true, ..taken }
     }
 
     // The number at hand is the next one of its declaration.
-    fn ended(mut self) -> Hand
+    fn ended(self) -> Hand
         ensures { result ≡ ended_of self }
     {
-        self.some = true;
-        self.begun = false;
-        if self.given == 0 {
-            self.burst = self.value;
-            self.given = 1;
-            return self;
+        let between = Hand {
+            some: true,
+            begun: false,
+            ..self
+        };
+        match self.given {
+            0 => Hand {
+                given: 1,
+                burst: self.value,
+                ..between
+            },
+            1 => Hand {
+                given: 2,
+                period: self.value,
+                ..between
+            },
+            _ => Hand {
+                given: 0,
+                ..between
+            },
         }
-        if self.given == 1 {
-            self.period = self.value;
-            self.given = 2;
-            return self;
-        }
-        self.given = 0;
-        self
     }
 
     // Whether a declaration is whole with the number at hand.
     pub(crate) fn whole(self) -> bool
         ensures { result ≡ whole_at self }
     {
-        if !self.begun {
-            return false;
-        }
-        if self.bad {
-            return false;
-        }
-        self.given == 2
+        self.begun && !self.bad && self.given == 2
     }
 }
 
@@ -98,16 +99,9 @@ impl Reading {
     pub(crate) fn keeping(self, b: u8) -> Reading
         ensures { result ≡ keeping_of self b }
     {
-        let hand = self.hand;
-        let next = hand.takes(b);
-        if b == b' ' {
-            let mut filled = self.filled();
-            filled.hand = next;
-            return filled;
-        }
-        let mut same = self;
-        same.hand = next;
-        same
+        let hand = self.hand.takes(b);
+        let kept = if b == b' ' { self.filled() } else { self };
+        Reading { hand, ..kept }
     }
 
     // The reading with the declaration at hand, where it is whole.
@@ -118,22 +112,20 @@ impl Reading {
         if !hand.whole() {
             return self;
         }
-        let declaration = Declaration {
+        self.put(Declaration {
             burst: hand.burst,
             period: hand.period,
             deadline: hand.value,
-        };
-        self.put(declaration)
+        })
     }
 
     // One declaration more, where there is a place for it.
     fn put(mut self, declaration: Declaration) -> Reading
         ensures { result ≡ put_of self declaration }
     {
-        let count = self.count;
-        if count < 17 {
-            self.items[count] = declaration;
-            self.count = count + 1;
+        if self.count < self.items.len() {
+            self.items[self.count] = declaration;
+            self.count += 1;
         }
         self
     }

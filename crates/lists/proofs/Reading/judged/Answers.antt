@@ -5,5 +5,5 @@ use Rattle.link.proofs.Published.{published}
 use Rattle.lists.proofs.Hands.{passed_over}
 use Rattle.lists.proofs.Reading.judged.Goals as goal
 
-pub returns-then-not-hand : goal.returns-then-not-hand
-returns-then-not-hand c = sym (passed_over c.args.self.hand.some _ _ (not-true c.args.self.hand.some c.if-not-hand.true) ∙ published.empty)
+pub returns-then-not-self : goal.returns-then-not-self
+returns-then-not-self c = sym (passed_over c.args.self.hand.some _ _ (not-true c.args.self.hand.some c.if-not-self.true) ∙ published.empty)
