@@ -44,9 +44,7 @@ pub fn begun(x: Node, length: u64) -> Node
     ensures { result ≡ begun_node length x }
 {
     let waiting = x.waiting.saturating_sub(1);
-    let Some(finish) = tags::finish_of(x.start, length, x.weight) else {
-        return Node { waiting, ..x };
-    };
+    let finish = tags::finish_of(x.start, length, x.weight).unwrap_or(x.finish);
     Node {
         waiting,
         finish,
