@@ -9,7 +9,7 @@ use station::Reply;
 
 // What a call is answered: its kind, and what the rules name for that kind, in their order; the rest is 0.
 #[repr(C)]
-#[derive(Clone, Copy)]
+#[derive(Clone, Copy, Debug, PartialEq, Eq)]
 pub struct Answer {
     pub kind: u64,
     pub a: u64,

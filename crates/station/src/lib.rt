@@ -24,7 +24,7 @@ pub struct Station {
 }
 
 // Every call that a station answers.
-#[derive(Clone, Copy)]
+#[derive(Clone, Copy, Debug, PartialEq, Eq)]
 pub enum Call {
     // Opens a flow of the urgent lane: the flow and its deadline.
     OpenUrgent(u64, u64),
@@ -45,7 +45,7 @@ pub enum Call {
 }
 
 // What a call is answered, by the lane that it went to.
-#[derive(Clone, Copy)]
+#[derive(Clone, Copy, Debug, PartialEq, Eq)]
 pub enum Reply {
     Urgent(urgent::Answer),
     Fair(fair::Answer),
@@ -63,90 +63,73 @@ impl Station {
     pub fn fresh() -> Station
         ensures { result ≡ fresh_station }
     {
-        let urgent = Urgent::fresh();
-        let fair = Fair::fresh();
-        Station { urgent, fair }
+        Station {
+            urgent: Urgent::fresh(),
+            fair: Fair::fresh(),
+        }
     }
 
     // Opens a flow of the urgent lane with a deadline.
     pub fn open_urgent(self, flow: u64, deadline: u64) -> Called
         ensures { result ≡ by_urgent self (open_urgent_of self.urgent flow deadline) }
     {
-        let lane = self.urgent;
-        let done = lane.open(flow, deadline);
-        by_urgent(self.fair, done)
+        by_urgent(self.fair, self.urgent.open(flow, deadline))
     }
 
     // Opens a flow of the fair lane with a weight.
     pub fn open_fair(self, flow: u64, weight: u64) -> Called
         ensures { result ≡ by_fair self (open_fair_of self.fair flow weight) }
     {
-        let lane = self.fair;
-        let done = lane.open(flow, weight);
-        by_fair(self.urgent, done)
+        by_fair(self.urgent, self.fair.open(flow, weight))
     }
 
     // Closes a flow of the urgent lane that has no cell waiting.
     pub fn close_urgent(self, flow: u64) -> Called
         ensures { result ≡ by_urgent self (close_urgent_of self.urgent flow) }
     {
-        let lane = self.urgent;
-        let done = lane.close(flow);
-        by_urgent(self.fair, done)
+        by_urgent(self.fair, self.urgent.close(flow))
     }
 
     // Closes a flow of the fair lane that has no packet waiting or in service.
     pub fn close_fair(self, flow: u64) -> Called
         ensures { result ≡ by_fair self (close_fair_of self.fair flow) }
     {
-        let lane = self.fair;
-        let done = lane.close(flow);
-        by_fair(self.urgent, done)
+        by_fair(self.urgent, self.fair.close(flow))
     }
 
     // Offers a cell of a flow to the urgent lane, with a deadline of its own.
     pub fn offer_cell(self, flow: u64, deadline: u64) -> Called
         ensures { result ≡ by_urgent self (offer_cell_of self.urgent flow deadline) }
     {
-        let lane = self.urgent;
-        let done = lane.offer(flow, deadline);
-        by_urgent(self.fair, done)
+        by_urgent(self.fair, self.urgent.offer(flow, deadline))
     }
 
     // Offers a packet of a flow to the fair lane.
     pub fn offer_packet(self, flow: u64, length: u64) -> Called
         ensures { result ≡ by_fair self (offer_packet_of self.fair flow length) }
     {
-        let lane = self.fair;
-        let done = lane.offer(flow, length);
-        by_fair(self.urgent, done)
+        by_fair(self.urgent, self.fair.offer(flow, length))
     }
 
     // A turn of the radio, open or lost.
     pub fn turn(self, usable: bool) -> Called
         ensures { result ≡ by_urgent self (turn_of self.urgent usable) }
     {
-        let lane = self.urgent;
-        let done = lane.turn(usable);
-        by_urgent(self.fair, done)
+        by_urgent(self.fair, self.urgent.turn(usable))
     }
 
     // Takes a waiting packet into service.
     pub fn begin(self) -> Called
         ensures { result ≡ by_fair self (begin_of self.fair) }
     {
-        let lane = self.fair;
-        let done = lane.begin();
-        by_fair(self.urgent, done)
+        by_fair(self.urgent, self.fair.begin())
     }
 
     // Ends the packet in service.
     pub fn end(self) -> Called
         ensures { result ≡ by_fair self (end_of self.fair) }
     {
-        let lane = self.fair;
-        let done = lane.end();
-        by_fair(self.urgent, done)
+        by_fair(self.urgent, self.fair.end())
     }
 
     // Answers any call.
@@ -173,11 +156,12 @@ impl Station {
 fn by_urgent(fair: Fair, done: urgent::Done) -> Called
     ensures { result ≡ by_urgent (record { urgent = done.lane; fair = fair }) done }
 {
-    let lane = done.lane;
-    let answer = done.answer;
     Called {
-        station: Station { urgent: lane, fair },
-        reply: Reply::Urgent(answer),
+        station: Station {
+            urgent: done.lane,
+            fair,
+        },
+        reply: Reply::Urgent(done.answer),
     }
 }
 
@@ -185,10 +169,11 @@ fn by_urgent(fair: Fair, done: urgent::Done) -> Called
 fn by_fair(urgent: Urgent, done: fair::Done) -> Called
     ensures { result ≡ by_fair (record { urgent = urgent; fair = done.lane }) done }
 {
-    let lane = done.lane;
-    let answer = done.answer;
     Called {
-        station: Station { urgent, fair: lane },
-        reply: Reply::Fair(answer),
+        station: Station {
+            urgent,
+            fair: done.lane,
+        },
+        reply: Reply::Fair(done.answer),
     }
 }

@@ -40,8 +40,7 @@ pub extern "C" fn tuhkeliar_fresh() -> Station
 pub extern "C" fn tuhkeliar_open_urgent(station: Station, flow: u64, deadline: u64) -> Called
     ensures { result ≡ called_of (by_urgent station (open_urgent_of station.urgent flow deadline)) }
 {
-    let called = station.open_urgent(flow, deadline);
-    handed(called)
+    handed(station.open_urgent(flow, deadline))
 }
 
 // Opens a flow of the fair lane with a weight.
@@ -49,8 +48,7 @@ pub extern "C" fn tuhkeliar_open_urgent(station: Station, flow: u64, deadline: u
 pub extern "C" fn tuhkeliar_open_fair(station: Station, flow: u64, weight: u64) -> Called
     ensures { result ≡ called_of (by_fair station (open_fair_of station.fair flow weight)) }
 {
-    let called = station.open_fair(flow, weight);
-    handed(called)
+    handed(station.open_fair(flow, weight))
 }
 
 // Closes a flow of the urgent lane that has no cell waiting.
@@ -58,8 +56,7 @@ pub extern "C" fn tuhkeliar_open_fair(station: Station, flow: u64, weight: u64) 
 pub extern "C" fn tuhkeliar_close_urgent(station: Station, flow: u64) -> Called
     ensures { result ≡ called_of (by_urgent station (close_urgent_of station.urgent flow)) }
 {
-    let called = station.close_urgent(flow);
-    handed(called)
+    handed(station.close_urgent(flow))
 }
 
 // Closes a flow of the fair lane that has no packet waiting or in service.
@@ -67,8 +64,7 @@ pub extern "C" fn tuhkeliar_close_urgent(station: Station, flow: u64) -> Called
 pub extern "C" fn tuhkeliar_close_fair(station: Station, flow: u64) -> Called
     ensures { result ≡ called_of (by_fair station (close_fair_of station.fair flow)) }
 {
-    let called = station.close_fair(flow);
-    handed(called)
+    handed(station.close_fair(flow))
 }
 
 // Offers a cell of a flow to the urgent lane, with a deadline of its own.
@@ -76,8 +72,7 @@ pub extern "C" fn tuhkeliar_close_fair(station: Station, flow: u64) -> Called
 pub extern "C" fn tuhkeliar_offer_cell(station: Station, flow: u64, deadline: u64) -> Called
     ensures { result ≡ called_of (by_urgent station (offer_cell_of station.urgent flow deadline)) }
 {
-    let called = station.offer_cell(flow, deadline);
-    handed(called)
+    handed(station.offer_cell(flow, deadline))
 }
 
 // Offers a packet of a flow to the fair lane.
@@ -85,8 +80,7 @@ pub extern "C" fn tuhkeliar_offer_cell(station: Station, flow: u64, deadline: u6
 pub extern "C" fn tuhkeliar_offer_packet(station: Station, flow: u64, length: u64) -> Called
     ensures { result ≡ called_of (by_fair station (offer_packet_of station.fair flow length)) }
 {
-    let called = station.offer_packet(flow, length);
-    handed(called)
+    handed(station.offer_packet(flow, length))
 }
 
 // A turn of the radio, open or lost.
@@ -94,8 +88,7 @@ pub extern "C" fn tuhkeliar_offer_packet(station: Station, flow: u64, length: u6
 pub extern "C" fn tuhkeliar_turn(station: Station, usable: bool) -> Called
     ensures { result ≡ called_of (by_urgent station (turn_of station.urgent usable)) }
 {
-    let called = station.turn(usable);
-    handed(called)
+    handed(station.turn(usable))
 }
 
 // Takes a waiting packet into service.
@@ -103,8 +96,7 @@ pub extern "C" fn tuhkeliar_turn(station: Station, usable: bool) -> Called
 pub extern "C" fn tuhkeliar_begin(station: Station) -> Called
     ensures { result ≡ called_of (by_fair station (begin_of station.fair)) }
 {
-    let called = station.begin();
-    handed(called)
+    handed(station.begin())
 }
 
 // Ends the packet in service.
@@ -112,8 +104,7 @@ pub extern "C" fn tuhkeliar_begin(station: Station) -> Called
 pub extern "C" fn tuhkeliar_end(station: Station) -> Called
     ensures { result ≡ called_of (by_fair station (end_of station.fair)) }
 {
-    let called = station.end();
-    handed(called)
+    handed(station.end())
 }
 
 // How many slots passed between two of the radio's counts; a gap of 65,536 or more can't be told.
@@ -128,8 +119,8 @@ pub extern "C" fn tuhkeliar_slots_passed(earlier: u16, later: u16) -> u16
 fn handed(called: station::Called) -> Called
     ensures { result ≡ called_of called }
 {
-    let station = called.station;
-    let reply = called.reply;
-    let answer = plain::plainly(reply);
-    Called { station, answer }
+    Called {
+        station: called.station,
+        answer: plain::plainly(called.reply),
+    }
 }

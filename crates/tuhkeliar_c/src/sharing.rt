@@ -30,10 +30,10 @@ pub extern "C" fn tuhkeliar_classes_set_up(lane: Classes, plan: Plan) -> ClassCa
     ensures { result ≡ planted_of (set_up_of lane plan) }
 {
     let planted = planting::set_up(lane, &plan);
-    let next = planted.lane;
-    let told = planted.answer;
-    let answer = class_plain::planted(told);
-    ClassCalled { lane: next, answer }
+    ClassCalled {
+        lane: planted.lane,
+        answer: class_plain::planted(planted.answer),
+    }
 }
 
 // Opens a flow with a weight.
@@ -80,8 +80,8 @@ pub extern "C" fn tuhkeliar_classes_end(lane: Classes) -> ClassCalled
 fn handed(done: Done) -> ClassCalled
     ensures { result ≡ called_of done }
 {
-    let lane = done.lane;
-    let told = done.answer;
-    let answer = class_plain::plainly(told);
-    ClassCalled { lane, answer }
+    ClassCalled {
+        lane: done.lane,
+        answer: class_plain::plainly(done.answer),
+    }
 }
