@@ -3,111 +3,74 @@
 
 mod states;
 
-use fair::{Answer, Fair};
+use fair::{Answer, Done, Fair};
 use states::{serving, two_waiting, written};
 use std::io;
-use std::io::Stdout;
+use std::io::{Stdout, Write};
 use tags::Flow;
 use units::Tag;
 
-// Writes a blank and a number.
-fn number(mut out: Stdout, n: u64) -> io::Result<()> {
-    streams::put(&mut out, b" ")?;
-    streams::number(&mut out, n)
-}
-
 // Writes an answer as a line.
-fn show(mut out: Stdout, answer: Answer) -> io::Result<()> {
+fn show(mut out: Stdout, answer: Answer) {
     match answer {
-        Answer::Refused(refusal) => {
-            streams::put(&mut out, b"no")?;
-            number(out, refusal.number())?;
-        }
-        Answer::Opened => streams::put(&mut out, b"ok")?,
-        Answer::Closed => streams::put(&mut out, b"closed")?,
-        Answer::Accepted(n, start, finish) => {
-            streams::put(&mut out, b"ok")?;
-            number(out, n)?;
-            number(out, start.0)?;
-            number(out, finish.0)?;
-        }
-        Answer::Begun(flow, n, length, start) => {
-            streams::put(&mut out, b"begun")?;
-            number(out, flow)?;
-            number(out, n)?;
-            number(out, length)?;
-            number(out, start.0)?;
-        }
-        Answer::Ended(flow, n, length) => {
-            streams::put(&mut out, b"ended")?;
-            number(out, flow)?;
-            number(out, n)?;
-            number(out, length)?;
-        }
+        Answer::Refused(refusal) => writeln!(out, "no {}", refusal.number()),
+        Answer::Opened => writeln!(out, "ok"),
+        Answer::Closed => writeln!(out, "closed"),
+        Answer::Accepted(n, start, finish) => writeln!(out, "ok {n} {} {}", start.0, finish.0),
+        Answer::Begun(flow, n, length, start) => writeln!(
+            out,
+            "begun {flow} {n} {length} {}",
+            start.0
+        ),
+        Answer::Ended(flow, n, length) => writeln!(out, "ended {flow} {n} {length}"),
     }
-    streams::put(&mut out, b"\n")
+    .ok();
 }
 
-// Opens a flow, writes the answer and hands the lane on.
+// Writes the answer to a call, and hands the lane on.
+fn told(out: Stdout, done: Done) -> Fair {
+    show(out, done.answer);
+    done.lane
+}
+
+// Opens a flow.
 fn open(out: Stdout, lane: Fair, flow: u64, weight: u64) -> Fair {
-    let done = lane.open(flow, weight);
-    let answer = done.answer;
-    let _ = show(out, answer);
-    let after = done.lane;
-    after
+    told(out, lane.open(flow, weight))
 }
 
-// Closes a flow, writes the answer and hands the lane on.
+// Closes a flow.
 fn close(out: Stdout, lane: Fair, flow: u64) -> Fair {
-    let done = lane.close(flow);
-    let answer = done.answer;
-    let _ = show(out, answer);
-    let after = done.lane;
-    after
+    told(out, lane.close(flow))
 }
 
-// Offers a packet, writes the answer and hands the lane on.
+// Offers a packet.
 fn offer(out: Stdout, lane: Fair, flow: u64, length: u64) -> Fair {
-    let done = lane.offer(flow, length);
-    let answer = done.answer;
-    let _ = show(out, answer);
-    let after = done.lane;
-    after
+    told(out, lane.offer(flow, length))
 }
 
 // Offers as many packets of one byte, one after the other.
 fn offers(out: Stdout, lane: Fair, flow: u64, times: u64) -> Fair {
     let mut after = lane;
-    let mut i: u64 = 0;
-    while i < times {
+    for _ in 0..times {
         after = offer(out, after, flow, 1);
-        i += 1;
     }
     after
 }
 
-// Begins a packet, writes the answer and hands the lane on.
+// Begins a packet.
 fn begin(out: Stdout, lane: Fair) -> Fair {
-    let done = lane.begin();
-    let answer = done.answer;
-    let _ = show(out, answer);
-    let after = done.lane;
-    after
+    told(out, lane.begin())
 }
 
-// Ends a packet, writes the answer and hands the lane on.
+// Ends a packet.
 fn end(out: Stdout, lane: Fair) -> Fair {
-    let done = lane.end();
-    let answer = done.answer;
-    let _ = show(out, answer);
-    let after = done.lane;
-    after
+    told(out, lane.end())
 }
 
 // Writes a heading.
 fn case(mut out: Stdout, name: &[u8]) {
-    let _ = streams::put(&mut out, name);
-    let _ = streams::put(&mut out, b"\n");
+    out.write_all(name).ok();
+    writeln!(out).ok();
 }
 
 // The cases worked by hand.
@@ -189,14 +152,12 @@ fn unreachable_states(out: Stdout) {
     close(out, close(out, open(out, serving(5, 9), 2, 1), 3), 2);
     case(out, b"a shut flow with packets waiting");
     let mut shut = two_waiting(3, 6);
-    let mut queue = shut.queue;
-    queue.flows[0] = Flow {
+    shut.queue.flows[0] = Flow {
         opened: false,
         weight: 1,
         next: 0,
         finish: Tag(0),
     };
-    shut.queue = queue;
     begin(out, close(out, shut, 0));
     case(
         out,

@@ -2,95 +2,64 @@
 #![tactic(auto)]
 
 use std::io;
-use std::io::Stdout;
+use std::io::{Stdout, Write};
 use units::Slot;
-use urgent::{Answer, Cell, Flow, Urgent};
-
-// Writes a blank and a number.
-fn number(mut out: Stdout, n: u64) -> io::Result<()> {
-    streams::put(&mut out, b" ")?;
-    streams::number(&mut out, n)
-}
+use urgent::{Answer, Cell, Done, Flow, Urgent};
 
 // Writes an answer as a line.
-fn show(mut out: Stdout, answer: Answer) -> io::Result<()> {
+fn show(mut out: Stdout, answer: Answer) {
     match answer {
-        Answer::Refused(refusal) => {
-            streams::put(&mut out, b"no")?;
-            number(out, refusal.number())?;
-        }
-        Answer::Opened => streams::put(&mut out, b"ok")?,
-        Answer::Closed => streams::put(&mut out, b"closed")?,
-        Answer::Accepted(n, last) => {
-            streams::put(&mut out, b"ok")?;
-            number(out, n)?;
-            number(out, last.0)?;
-        }
-        Answer::Sent(flow, n, missed) => {
-            streams::put(&mut out, b"sent")?;
-            number(out, flow)?;
-            number(out, n)?;
-            streams::put(&mut out, b" missed")?;
-            number(out, missed)?;
-        }
-        Answer::Idle(missed) => {
-            streams::put(&mut out, b"idle missed")?;
-            number(out, missed)?;
-        }
+        Answer::Refused(refusal) => writeln!(out, "no {}", refusal.number()),
+        Answer::Opened => writeln!(out, "ok"),
+        Answer::Closed => writeln!(out, "closed"),
+        Answer::Accepted(n, last) => writeln!(out, "ok {n} {}", last.0),
+        Answer::Sent(flow, n, missed) => writeln!(out, "sent {flow} {n} missed {missed}"),
+        Answer::Idle(missed) => writeln!(out, "idle missed {missed}"),
     }
-    streams::put(&mut out, b"\n")
+    .ok();
 }
 
-// Each call writes its answer and hands the lane on.
+// Writes the answer to a call, and hands the lane on.
+fn told(out: Stdout, done: Done) -> Urgent {
+    show(out, done.answer);
+    done.lane
+}
+
+// Opens a flow.
 fn open(out: Stdout, lane: Urgent, flow: u64, deadline: u64) -> Urgent {
-    let done = lane.open(flow, deadline);
-    let answer = done.answer;
-    let _ = show(out, answer);
-    let after = done.lane;
-    after
+    told(out, lane.open(flow, deadline))
 }
 
+// Closes a flow.
 fn close(out: Stdout, lane: Urgent, flow: u64) -> Urgent {
-    let done = lane.close(flow);
-    let answer = done.answer;
-    let _ = show(out, answer);
-    let after = done.lane;
-    after
+    told(out, lane.close(flow))
 }
 
+// Offers a cell.
 fn offer(out: Stdout, lane: Urgent, flow: u64, deadline: u64) -> Urgent {
-    let done = lane.offer(flow, deadline);
-    let answer = done.answer;
-    let _ = show(out, answer);
-    let after = done.lane;
-    after
+    told(out, lane.offer(flow, deadline))
 }
 
 // Offers as many cells of a flow with one deadline, one after the other.
 fn offers(out: Stdout, lane: Urgent, flow: u64, deadline: u64, times: u64) -> Urgent {
     let mut after = lane;
-    let mut i: u64 = 0;
-    while i < times {
+    for _ in 0..times {
         after = offer(out, after, flow, deadline);
-        i += 1;
     }
     after
 }
 
+// A turn, open or lost.
 fn turn(out: Stdout, lane: Urgent, usable: bool) -> Urgent {
-    let done = lane.turn(usable);
-    let answer = done.answer;
-    let _ = show(out, answer);
-    let after = done.lane;
-    after
+    told(out, lane.turn(usable))
 }
 
 // A lane as before any call, but at slot n.
 fn at(n: u64) -> Urgent {
-    let mut lane = Urgent::fresh();
-    let now = Slot(n);
-    lane.now = now;
-    lane
+    Urgent {
+        now: Slot(n),
+        ..Urgent::fresh()
+    }
 }
 
 // The same, with flow 0 open and one cell waiting at each of two places of it.
@@ -98,8 +67,8 @@ fn written(n: u64, deadline: u64, next: u64, first: u64, second: u64) -> Urgent 
     let mut lane = at(n);
     lane.flows[0] = Flow {
         opened: true,
-        deadline: deadline,
-        next: next,
+        deadline,
+        next,
     };
     lane.cells[3] = Cell {
         held: true,
@@ -116,8 +85,8 @@ fn written(n: u64, deadline: u64, next: u64, first: u64, second: u64) -> Urgent 
 
 // Writes a heading.
 fn case(mut out: Stdout, name: &[u8]) {
-    let _ = streams::put(&mut out, name);
-    let _ = streams::put(&mut out, b"\n");
+    out.write_all(name).ok();
+    writeln!(out).ok();
 }
 
 fn worked(out: Stdout) {
@@ -257,8 +226,7 @@ fn used_up(out: Stdout) {
     offer(out, offer(out, lane, 0, 4096), 0, 4095);
     case(out, b"a bad deadline before full, and full before used up");
     let mut full = offers(out, open(out, at(3999999990), 0, 10), 0, 10, 17);
-    let late = Slot(3999999999);
-    full.now = late;
+    full.now = Slot(3999999999);
     full = turn(out, offer(out, offer(out, full, 0, 11), 0, 10), true);
     turn(out, offer(out, offer(out, full, 0, 11), 0, 1), true);
 }

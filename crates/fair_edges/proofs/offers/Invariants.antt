@@ -1,6 +1,0 @@
--- `offers` ends. The measure is how many packets are left to offer.
-use Rattle.std.proofs.Common.{◌-◌}
-use Rattle.fair_edges.proofs.offers.Given as goal
-
-abbrev pub decreases-loop-i : goal.decreases-loop-i
-decreases-loop-i l = l.times - l.i
