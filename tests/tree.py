@@ -4,9 +4,9 @@ import shutil
 
 from support import ROOT, fail, folder, run
 
-# Where the urgent lane asks whether its next slot is the last of a window; a slot of the fair lane's kind, a tag, is put in its stead.
-ASKED = 'expires(c, self.now)'
-GIVEN = 'expires(c, units::Tag(0))'
+# Where the urgent lane asks whether the slot at hand is a cell's last; a slot of the fair lane's kind, a tag, is put in its stead.
+ASKED = 'is_due(*cell, now)'
+GIVEN = 'is_due(*cell, units::Tag(0))'
 
 
 def tags_are_no_slots():

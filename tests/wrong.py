@@ -10,21 +10,20 @@ STATIONS = [
     (
         'closing starts a flow\'s numbers again', 'urgent', 'promises_urgent', 'kept_close', [
             ('specs/Calls.antt', 'opened = false; deadline = (flow_at u flow).deadline; next = (flow_at u flow).next', 'opened = false; deadline = (flow_at u flow).deadline; next = 0'),
-            ('src/closing.rt', 'next: was.next,', 'next: 0,'),
+            ('src/closing.rt', 'self.flows[f].opened = false;', 'self.flows[f].opened = false; self.flows[f].next = 0;'),
         ],
     ),
     (
         'a drain leaves virtual time at the last start', 'fair', 'promises_fair', 'kept_end', [
             ('specs/Calls.antt', '(largest_ended u) u.time', 'u.time u.time'),
-            ('src/lib.rt', 'time = largest;', 'time = self.time;'),
+            ('src/lib.rt', 'self.time = self.largest;', 'self.time = self.time;'),
             ('proofs/Calls.antt', 'time_left u ≡ largest_ended u', 'time_left u ≡ u.time'),
         ],
     ),
     (
         'packets are served by their finish tags', 'packets', 'promises_fair', 'begins_first', [
             ('specs/Queue.antt', 'by_start start finish = start', 'by_start start finish = finish'),
-            ('src/choosing.rt', 'tags::earlier(p.start, b.start)', 'tags::earlier(p.finish, b.finish)'),
-            ('src/choosing.rt', 'tags::earlier(b.start, p.start)', 'tags::earlier(b.finish, p.finish)'),
+            ('src/ranking.rt', 'rank: packet.start.0,', 'rank: packet.finish.0,'),
         ],
     ),
     (
