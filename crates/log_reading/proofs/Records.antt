@@ -8,6 +8,7 @@ use Rattle.log_format.specs.declared.Fault.TheVariants.{BadRecord, EndsEarly}
 use Rattle.log_format.specs.Format.{bad_opening, bad_event, most_deadline, most_weight}
 use Rattle.log_format.specs.Faults.{byte_at, two_of, two_at}
 use Rattle.log_format.specs.Reading.{Part, first_fault, opening_parts, event_parts}
+use Rattle.std.specs.Result.{result_and}
 use Rattle.log_table.specs.Scanning.{found_in}
 use Rattle.log_table.proofs.Laws.{stops, passes}
 
@@ -110,8 +111,7 @@ module _ (form : Form) (s : List ℕ) (u f e : ℕ) where
     after_urgent : found_in (length s) (fs ++ es) ≡ all
     after_urgent = passes (length s) us (fs ++ es) (tt {0}) (tt {0}) (tt {0}) a
 
-    pub fair_wrong : (flaw : Flaw) → Err flaw ≡ found_in (length s) fs → Err flaw ≡ all
-    fair_wrong flaw d = stops (length s) fs es (tt {0}) (tt {0}) flaw d ∙ after_urgent
-
-    pub fair_right : Ok tt ≡ found_in (length s) fs → found_in (length s) es ≡ all
-    fair_right d = passes (length s) fs es (tt {0}) (tt {0}) (tt {0}) d ∙ after_urgent
+    -- what is found in the fair openings, or else in the events
+    pub others : (a b : Result (Unit {0}) Flaw) → a ≡ found_in (length s) fs → b ≡ found_in (length s) es → result_and a b ≡ all
+    others (Ok u) b p q = q ∙ passes (length s) fs es (tt {0}) (tt {0}) u p ∙ after_urgent
+    others (Err wrong) b p q = stops (length s) fs es (tt {0}) (tt {0}) wrong p ∙ after_urgent

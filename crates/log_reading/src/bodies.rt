@@ -15,8 +15,9 @@ pub(crate) fn bodies(log: &[u8], layout: Layout) -> Result<(), Flaw>
     let fair = 25 + layout.urgent;
     let events = fair + layout.fair;
     scan_openings(log, 25, layout.urgent / 3, 4096)?;
-    scan_openings(log, fair, layout.fair / 3, 16)?;
-    scan_events(log, events, layout.events / 4, layout.form)
+    let in_fair = scan_openings(log, fair, layout.fair / 3, 16);
+    let in_events = scan_events(log, events, layout.events / 4, layout.form);
+    in_fair.and(in_events)
 }
 
 // What is found in so many openings from a place on, with numbers up to most.
