@@ -2,7 +2,7 @@
 ghost use Rattle.std.specs.Prelude.{◌≡◌, ◌==◌, ◌<◌, ◌≤◌, MatchOption, take};
 ghost use Rattle.feeding.specs.Lines.{fresh_line, kept_of, ended_of};
 
-// A line as far as it was fed: its first 32 bytes, and how many it has, or 33 where it has more.
+// A line as far as it was fed, in fixed memory: its first 32 bytes, and how many it has, or 33 where it has more.
 #[derive(Clone, Copy, Debug, PartialEq, Eq)]
 pub struct Line {
     pub kept: [u8; 32],

@@ -15,8 +15,8 @@ use judging::print;
 use link::Declaration;
 use taking::Hand;
 
-// A line as far as it was read: what is at hand, and its first declarations, count of them. Seventeen are kept: a longer list is
-// refused as they are.
+// A line as far as it was read: what is at hand, and its first declarations, count of them. Memory is fixed, so seventeen are
+// kept: a longer list is refused as they are.
 #[derive(Drop)]
 pub struct Reading {
     pub hand: Hand,
