@@ -26,7 +26,7 @@ pub enum Call {
     End,
 }
 
-// What a call is answered.
+// What a call is answered. A refusal stays one of the answers: the theorems on every call name it so.
 #[derive(Clone, Copy, Debug, PartialEq, Eq)]
 pub enum Answer {
     Refused(Refusal),

@@ -87,7 +87,7 @@ fn feed_input<P: Filter>(
     Ok(state)
 }
 
-// Feeds one piece of input, and writes the answers as often as out is full.
+// Feeds one piece of input, and writes the answers as often as out is full: how often that is no range can say.
 fn feed_piece<P: Filter>(
     rt: &HostRuntime,
     mut state: P::State,

@@ -42,7 +42,7 @@ fn first_bad_opening(most: u64, words: &[u32]) -> Option<usize>
     None
 }
 
-// The position of the first bad event.
+// The position of the first bad event. The search among openings hands the least flow on, and stays a loop of its own.
 fn first_bad_event(form: Form, words: &[u32]) -> Option<usize>
     ensures { result ≡ first_bad (bad_events form (map event_of words.now)) }
 {

@@ -45,7 +45,8 @@ fn scan_openings(log: &[u8], start: usize, count: usize, most: u64) -> Result<()
     Ok(())
 }
 
-// What is found in so many events from a place on, in a log of this form.
+// What is found in so many events from a place on, in a log of this form. The search among openings hands the least flow on from one to the
+// next: one search for both would take a closure that changes, of which a proof learns nothing.
 fn scan_events(log: &[u8], start: usize, count: usize, form: Form) -> Result<(), Flaw>
     requires { start + 4 * count ≤ most_bytes }
     ensures { result ≡ found_in (length log.now) (event_parts form log.now start count) }

@@ -17,7 +17,8 @@ pub use ranking::ByStart;
 use tags::{Flow, Packet};
 use units::{Refusal, Tag};
 
-// The service: idle, or busy with the packet of this flow, number, length in bytes and finish tag.
+// The service: idle, or busy with the packet of this flow, number, length in bytes and finish tag. `busy` stays a flag beside them, since C
+// reads the service so (include/tuhkeliar.h).
 #[repr(C)]
 #[derive(Clone, Copy, Debug, PartialEq, Eq)]
 pub struct Service {
@@ -37,7 +38,8 @@ pub struct Queue {
     pub packets: [Packet; 256],
 }
 
-// What a call is answered.
+// What a call is answered. A refusal stays one of the answers, and no error of a Result: the theorems on every call (RefusedFirst) and the
+// promises over them name it so.
 #[derive(Clone, Copy, Debug, PartialEq, Eq)]
 pub enum Answer {
     Refused(Refusal),

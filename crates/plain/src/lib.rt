@@ -7,7 +7,8 @@ ghost use Rattle.plain.specs.Plain.{answer_of};
 
 use station::Reply;
 
-// What a call is answered: its kind, and what the rules name for that kind, in their order; the rest is 0.
+// What a call is answered: its kind, and what the rules name for that kind, in their order; the rest is 0. The kind stays a number, since C
+// reads it (include/tuhkeliar.h).
 #[repr(C)]
 #[derive(Clone, Copy, Debug, PartialEq, Eq)]
 pub struct Answer {

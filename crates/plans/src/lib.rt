@@ -9,7 +9,7 @@ ghost use Rattle.plans.specs.Plans.{parent_in, weight_in, class_in};
 pub use judging::broken;
 
 // How many classes there are, what each hangs from, its weight, and the class of each flow. What class 0, the root, hangs from is not read,
-// nor is what stands from the count on.
+// nor is what stands from the count on. The arrays stay beside each other, since C describes a tree so (include/tuhkeliar.h).
 #[repr(C)]
 #[derive(Clone, Copy, Debug, PartialEq, Eq)]
 pub struct Plan {

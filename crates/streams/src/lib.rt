@@ -17,7 +17,8 @@ pub fn piece<R: Read>(input: &mut R, room: &mut [u8]) -> io::Result<usize>
     input.read(room)
 }
 
-// Reads until the room is full, the input has ended or could not be read: how many bytes are at the front of the room.
+// Reads until the room is full, the input has ended or could not be read: how many bytes are at the front of the room. How often it reads
+// no range can say.
 pub fn fill<R: Read>(input: &mut R, room: &mut [u8]) -> usize
     ensures within { (result ≤ length room.new) × (result ≡ length (take result room.new)) }
     ensures bytes { Consumes (R.remaining input.old) (R.remaining input.new) (take result room.new) }

@@ -6,7 +6,8 @@ ghost use Rattle.tags.specs.Tags.{later_of, finish_of};
 
 use units::{TAG_LIMIT, Tag};
 
-// A flow: whether it is open, its weight, the number of its next packet, and the finish tag of its last.
+// A flow: whether it is open, its weight, the number of its next packet, and the finish tag of its last. `opened` stays a flag beside them,
+// since C reads a flow so (include/tuhkeliar.h).
 #[repr(C)]
 #[derive(Clone, Copy, Debug, PartialEq, Eq)]
 pub struct Flow {
@@ -16,7 +17,7 @@ pub struct Flow {
     pub finish: Tag,
 }
 
-// A place: free, or held by the waiting packet of this number, length in bytes, start tag and finish tag.
+// A place: free, or held by the waiting packet of this number, length in bytes, start tag and finish tag. C reads it so.
 #[repr(C)]
 #[derive(Clone, Copy, Debug, PartialEq, Eq)]
 pub struct Packet {

@@ -33,7 +33,7 @@ pub struct Class {
 }
 
 // The nodes, of which 0 to 30 are the classes and 31 + f is flow f, and the times of the classes. The root is node 0 and hangs from 31, which
-// is no class.
+// is no class: C reads a tree so (include/tuhkeliar.h).
 #[repr(C)]
 #[derive(Drop)]
 pub struct Tree {

@@ -16,7 +16,8 @@ ghost use Rattle.urgent.specs.Calls.{refused};
 
 use units::{Refusal, Slot};
 
-// A place: free, or held by the waiting cell of this number and last slot.
+// A place: free, or held by the waiting cell of this number and last slot. `held` stays a flag beside them, since C reads a place so
+// (include/tuhkeliar.h).
 #[repr(C)]
 #[derive(Clone, Copy, Debug, PartialEq, Eq)]
 pub struct Cell {
@@ -25,7 +26,7 @@ pub struct Cell {
     pub last: Slot,
 }
 
-// A flow: whether it is open, its deadline in slots, and the number of its next cell.
+// A flow: whether it is open, its deadline in slots, and the number of its next cell. C reads it so.
 #[repr(C)]
 #[derive(Clone, Copy, Debug, PartialEq, Eq)]
 pub struct Flow {
@@ -43,7 +44,8 @@ pub struct Urgent {
     pub cells: [Cell; 256],
 }
 
-// What a call is answered.
+// What a call is answered. A refusal stays one of the answers, and no error of a Result: the theorems on every call (RefusedFirst,
+// RefusedSame) and the promises over them name it so.
 #[derive(Clone, Copy, Debug, PartialEq, Eq)]
 pub enum Answer {
     Refused(Refusal),
