@@ -91,7 +91,7 @@ def example_in_c():
 def header_constants():
     """include/tuhkeliar.h has every refusal by its number, and the rules' limits"""
     header, code = HEADER.read_text(), (ROOT / 'crates' / 'units' / 'src' / 'lib.rt').read_text()
-    refusals = {re.sub(r'(?<=[a-z])(?=[A-Z])', '_', word).upper(): int(number) for word, number in re.findall(r'Refusal::(\w+) => (\d+)', code)}
+    refusals = {re.sub(r'(?<=[a-z])(?=[A-Z])', '_', word).upper(): int(number) for word, number in re.findall(r'^    (\w+) = (\d+),$', code.split('pub enum Refusal {')[1].split('}')[0], re.M)}
     named_there = {name: int(number) for name, number in re.findall(r'TUHKELIAR_(\w+) = (\d+)', header.split('The refusals, by their numbers.')[1])}
     if named_there != refusals or len(refusals) != 18:
         fail('the refusals of the header differ: %r' % sorted(named_there.items() ^ refusals.items()))
