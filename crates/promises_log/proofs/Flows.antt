@@ -14,7 +14,6 @@ use Rattle.urgent.specs.declared.Flow.{Flow as UrgentFlow}
 use Rattle.urgent.specs.declared.Answer.{Answer}
 use Rattle.urgent.specs.declared.Answer.TheVariants.{Refused, Opened, Closed, Accepted, Sent, Idle}
 use Rattle.urgent.specs.Lane.{flow_at}
-use Rattle.urgent.proofs.Calls.{offer_2}
 use Rattle.station.specs.declared.Station.{Station}
 use Rattle.station.specs.declared.Reply.{Reply}
 use Rattle.station.specs.declared.Reply.TheVariants.{Urgent, Fair}
@@ -42,6 +41,7 @@ use Rattle.promises_log.proofs.Lanes.{urgent_with, urgent_flow, station_with, fr
 use Rattle.promises_log.proofs.Events.{station_from, run_station}
 use Rattle.promises_log.proofs.Again.{again}
 use Rattle.promises_log.proofs.Logged.{openings_station}
+use Rattle.promises_log.proofs.UrgentCalls.{offered_closed}
 
 -- ---- an event opens and closes no flow
 offer_marks : (h : Cells) (flow deadline : ℕ) (a : Answer) → (note_offer h flow deadline a).marks ≡ h.marks
@@ -143,7 +143,7 @@ module _ (log : Log) (g : GoodLog log) where
     shut_alike e one other =
         let u = (run (calls_before log k)).station.urgent in
         let no : not (flow_at u flow).opened ≡ true = rw ((good_run (calls_before log k)).kept.open_flows flow (omega arith), e) in
-        ap (by_urgent (run (calls_before log k)).station) (sym (offer_2 u flow one l no) ∙ offer_2 u flow other l no)
+        ap (by_urgent (run (calls_before log k)).station) (sym (offered_closed u flow one l no) ∙ offered_closed u flow other l no)
 
 -- ---- an event of a good log of form Flow
 module _ (log : Log) (g : GoodLog log) (f : log.form ≡ Flow) (k : ℕ) (d : Event) (l : k < length log.events) where

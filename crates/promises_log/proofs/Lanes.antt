@@ -15,7 +15,6 @@ use Rattle.urgent.specs.declared.Done.{Done as UrgentDone}
 use Rattle.urgent.specs.declared.Answer.TheVariants.{Opened as UrgentOpened}
 use Rattle.urgent.specs.Lane.{free_cell, flow_at as urgent_at}
 use Rattle.urgent.specs.Calls.{open_of as open_urgent_of, opened as urgent_opened}
-use Rattle.urgent.proofs.Calls.{open_3 as urgent-3, open_ok as urgent-ok}
 use Rattle.tags.specs.declared.Flow.{Flow as FairFlow}
 use Rattle.tags.specs.Tags.{free_packet}
 use Rattle.fair.specs.declared.Fair.{Fair as FairLane}
@@ -29,6 +28,7 @@ use Rattle.fair.specs.Calls.{with_flows, by_flows, open_of as open_fair_of}
 use Rattle.station.specs.declared.Station.{Station}
 use Rattle.station.specs.Calls.{fresh_station}
 use Rattle.logging.specs.Logging.{Opened, nothing_opened, opened_with}
+use Rattle.promises_log.proofs.UrgentCalls.{opened_twice, opened_now}
 
 module _ {A : Type 0} (f : ℕ → A) where
   map_set : (xs : List ℕ) (i x : ℕ) → set (map f xs) i (f x) ≡ map f (set xs i x)
@@ -84,7 +84,7 @@ module _ (ds : List ℕ) (flow deadline : ℕ) (l : flow ≤ 15) (b : bad_deadli
 
   pub urgent_new : eqb (get_or ds flow 0) 0 ≡ true → open_urgent_of (urgent_with ds) flow deadline ≡ record { lane = urgent_with (set ds flow deadline); answer = UrgentOpened }
   urgent_new e =
-      sym (urgent-ok (urgent_with ds) flow deadline l (urgent_mark ∙ rw e) b)
+      sym (opened_now (urgent_with ds) flow deadline l (urgent_mark ∙ rw e) b)
       ∙ ap (λ (u : UrgentLane). record { lane = u; answer = UrgentOpened }) urgent_set
 
   pub urgent_open : (open_urgent_of (urgent_with ds) flow deadline).lane ≡ urgent_with (opened_with ds flow deadline)
@@ -92,7 +92,7 @@ module _ (ds : List ℕ) (flow deadline : ℕ) (l : flow ≤ 15) (b : bad_deadli
     where
       go : (t : Bool) → eqb (get_or ds flow 0) 0 ≡ t → (open_urgent_of (urgent_with ds) flow deadline).lane ≡ urgent_with (cond t (set ds flow deadline) ds)
       go true e = ap (λ (d : UrgentDone). d.lane) (urgent_new e)
-      go false e = ap (λ (d : UrgentDone). d.lane) (sym (urgent-3 (urgent_with ds) flow deadline l (urgent_mark ∙ rw e)))
+      go false e = ap (λ (d : UrgentDone). d.lane) (sym (opened_twice (urgent_with ds) flow deadline l (urgent_mark ∙ rw e)))
 
 module _ (ws : List ℕ) (flow weight : ℕ) (l : flow ≤ 15) (b : bad_weight weight ≡ false) where
   fair_mark : (fair_at (fair_with ws).queue flow).opened ≡ not (eqb (get_or ws flow 0) 0)
