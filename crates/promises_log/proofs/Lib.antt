@@ -1,4 +1,5 @@
 pub mod Beyond
+pub mod UrgentCalls
 pub mod Lanes
 pub mod Events
 pub mod Openings
