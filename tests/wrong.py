@@ -10,7 +10,7 @@ STATIONS = [
     (
         'closing starts a flow\'s numbers again', 'urgent', 'promises_urgent', 'kept_close', [
             ('specs/Calls.antt', 'opened = false; deadline = (flow_at u flow).deadline; next = (flow_at u flow).next', 'opened = false; deadline = (flow_at u flow).deadline; next = 0'),
-            ('src/closing.rt', 'self.flows[f].opened = false;', 'self.flows[f].opened = false; self.flows[f].next = 0;'),
+            ('src/closing.rt', 'self.flows[f].opened = false;', 'self.flows[f] = crate::Flow { opened: false, next: 0, ..self.flows[f] };'),
         ],
     ),
     (
