@@ -46,6 +46,7 @@ enum Failed {
 }
 
 // Runs a program to the end of its input, or tells why it could not.
+// No contract of it can say what is read or written; it is safe, ends, and rests on the clauses of Filter (docs/EXCEPTIONS.md, "The program's own loop").
 pub fn run<P: Filter>(rt: &HostRuntime) {
     if let Err(failed) = answer::<P>(rt) {
         let what = match failed {
