@@ -15,7 +15,7 @@ abbrev pub quoted : Tag → Option Tag → Option Quote
 quoted start None = None
 quoted start (Some finish) = Some (record { start = start; finish = finish })
 
--- what a packet of this length is quoted: nothing where the flow's next number, or the packet's finish, passes the largest tag
+-- what a packet of this length is quoted: nothing where the flow's next number passes the largest tag
 unfoldable pub quote_of : Flow → Tag → ℕ → Option Quote
 quote_of was time length =
     quoted (start_after was time) (cond (ltb tag_limit was.next) None (finish_of (start_after was time) length was.weight))
