@@ -4,25 +4,30 @@ import shutil
 
 from support import ROOT, fail, folder, run
 
-# Where the urgent lane asks whether the slot at hand is a cell's last; a slot of the fair lane's kind, a tag, is put in its stead.
-ASKED = 'is_due(*cell, now)'
-GIVEN = 'is_due(*cell, units::Tag(0))'
+# Where the urgent lane asks whether the slot at hand is a cell's last, and where its choice compares two cells; a slot of the fair lane's kind, a
+# tag, is put in a slot's stead.
+ASKED = (
+    ('turning.rt', 'is_due(*cell, now)', 'is_due(*cell, units::Tag(0))'),
+    ('ranking.rt', 'cell.last < than.last', 'cell.last < units::Tag(0)'),
+)
 
 
 def tags_are_no_slots():
-    """a tag cannot stand where a slot is asked for: the compiler refuses it in the urgent lane's own turn"""
+    """a tag cannot stand where a slot is asked for: the compiler refuses it in the urgent lane's own turn, and in its choice"""
     root = folder()
     for name in ('units', 'places', 'urgent'):
         shutil.copytree(ROOT / 'crates' / name, root / 'crates' / name, ignore=shutil.ignore_patterns('out'))
     (root / 'crates.txt').write_text('units:\nplaces:\nurgent: units places\n')
-    turning = root / 'crates' / 'urgent' / 'src' / 'turning.rt'
-    code = turning.read_text()
-    if code.count(ASKED) != 1:
-        fail('the turn no longer asks `%s`' % ASKED)
-    turning.write_text(code.replace(ASKED, GIVEN))
-    status, wrote, said = run(['rt', 'check'], cwd=root / 'crates' / 'urgent')
-    if status == 0 or b'expected `Slot`, found `Tag`' not in wrote + said:
-        fail('a tag is taken where a slot is asked for:\n' + (wrote + said).decode())
+    for name, asked, given in ASKED:
+        file = root / 'crates' / 'urgent' / 'src' / name
+        code = file.read_text()
+        if code.count(asked) != 1:
+            fail('the lane no longer asks `%s`' % asked)
+        file.write_text(code.replace(asked, given))
+        status, wrote, said = run(['rt', 'check'], cwd=root / 'crates' / 'urgent')
+        if status == 0 or b'expected `Slot`, found `Tag`' not in wrote + said:
+            fail('a tag is taken where a slot is asked for:\n' + (wrote + said).decode())
+        file.write_text(code)
     return 'a tag cannot stand where a slot is asked for'
 
 

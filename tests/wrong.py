@@ -23,7 +23,8 @@ STATIONS = [
     (
         'packets are served by their finish tags', 'packets', 'promises_fair', 'begins_first', [
             ('specs/Queue.antt', 'by_start start finish = start', 'by_start start finish = finish'),
-            ('src/ranking.rt', 'rank: packet.start.0,', 'rank: packet.finish.0,'),
+            ('src/ranking.rt', 'packet.start != than.start', 'packet.finish != than.finish'),
+            ('src/ranking.rt', 'tags::earlier(packet.start, than.start)', 'tags::earlier(packet.finish, than.finish)'),
         ],
     ),
     (

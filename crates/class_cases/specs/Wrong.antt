@@ -1,7 +1,6 @@
 -- Ten wrong lanes, each of which differs from the class lane in one thing. The v of a class is its virtual time.
 use Rattle.std.specs.Prelude.{cond, ◌&&◌, ℕ, zero, suc, ◌+◌, ◌-◌, ◌%◌, ltb, eqb}
-use Rattle.places.specs.declared.Key.{Key}
-use Rattle.places.specs.Choice.{least_held}
+use Rattle.places.specs.Choice.{Key, least_held}
 use Rattle.tree.specs.declared.Node.{Node}
 use Rattle.tree.specs.declared.Tree.{Tree}
 use Rattle.tree.specs.Tree.{node_at, class_at, with_node}

@@ -1,7 +1,6 @@
 -- The way down: from a class to that child of it which goes first, until a flow is met.
 use Rattle.std.specs.Prelude.{Bool, cond, ◌&&◌, ℕ, zero, suc, ◌-◌, ltb, leb, eqb}
-use Rattle.places.specs.declared.Key.{Key}
-use Rattle.places.specs.Choice.{Choice, nothing, at, least_held}
+use Rattle.places.specs.Choice.{Key, Choice, nothing, at, least_held}
 use Rattle.tree.specs.declared.Node.{Node}
 use Rattle.tree.specs.declared.Tree.{Tree}
 

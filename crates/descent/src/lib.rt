@@ -4,7 +4,7 @@
 ghost use Rattle.std.specs.Prelude.{◌≡◌};
 ghost use Rattle.descent.specs.Descent.{descend_of, flow_met};
 
-use places::{Key, Ranking};
+use places::Ranking;
 use tree::{Node, Tree};
 
 // The flow whose packet is begun next, 16 where nothing waits, as the definition `flow_met` counts, which the choice of the lane names.
@@ -44,12 +44,12 @@ impl Ranking<Node> for ChildrenOf {
         0 < node.waiting && node.parent == self.0
     }
 
-    // Places are told apart by the flow of the key: the classes come before the flows.
-    fn key_at(&self, place: usize, node: Node) -> Key {
-        Key {
-            rank: node.start.0,
-            flow: place as u64,
-            number: 0,
+    // The earlier start goes first, then the lower place: the classes come before the flows.
+    #[tactic(auto, unfolding(places::specs::Choice::comes_before))]
+    fn goes_before(&self, place: usize, node: Node, other: usize, than: Node) -> bool {
+        if node.start != than.start {
+            return tags::earlier(node.start, than.start);
         }
+        place < other
     }
 }

@@ -41,7 +41,7 @@ impl Fair {
     pub fn open(mut self, flow: u64, weight: u64) -> Done
         ensures { result ≡ open_of self flow weight }
     {
-        let answer = flows::open(&mut self.queue, flow, weight);
+        let answer = self.open_at(flow, weight);
         Done { lane: self, answer }
     }
 
@@ -49,7 +49,7 @@ impl Fair {
     pub fn close(mut self, flow: u64) -> Done
         ensures { result ≡ close_of self flow }
     {
-        let answer = flows::close(&mut self.queue, flow);
+        let answer = self.close_at(flow);
         Done { lane: self, answer }
     }
 
@@ -57,8 +57,7 @@ impl Fair {
     pub fn offer(mut self, flow: u64, length: u64) -> Done
         ensures { result ≡ offer_of self flow length }
     {
-        let quote = packets::quote_of(self.queue.flow_at(flow), self.time, length);
-        let answer = queue::put(&mut self.queue, flow, length, quote);
+        let answer = self.offer_at(flow, length);
         Done { lane: self, answer }
     }
 
@@ -66,16 +65,59 @@ impl Fair {
     pub fn begin(mut self) -> Done
         ensures { result ≡ begin_of self }
     {
-        let answer = service::begin(&mut self.queue);
-        if let Answer::Begun(_, _, _, start) = answer {
-            self.time = start;
-        }
+        let answer = self.begin_at();
         Done { lane: self, answer }
     }
 
     // Ends the packet in service. Where none waits then, virtual time goes on to the largest finish tag of all packets ended.
     pub fn end(mut self) -> Done
         ensures { result ≡ end_of self }
+    {
+        let answer = self.end_at();
+        Done { lane: self, answer }
+    }
+
+    // The same calls on a lane that stays where it is: opening a flow.
+    pub fn open_at(&mut self, flow: u64, weight: u64) -> Answer
+        ensures answer { result ≡ (open_of self.old flow weight).answer }
+        ensures lane { self.new ≡ (open_of self.old flow weight).lane }
+    {
+        flows::open(&mut self.queue, flow, weight)
+    }
+
+    // Closing a flow.
+    pub fn close_at(&mut self, flow: u64) -> Answer
+        ensures answer { result ≡ (close_of self.old flow).answer }
+        ensures lane { self.new ≡ (close_of self.old flow).lane }
+    {
+        flows::close(&mut self.queue, flow)
+    }
+
+    // Offering a packet.
+    pub fn offer_at(&mut self, flow: u64, length: u64) -> Answer
+        ensures answer { result ≡ (offer_of self.old flow length).answer }
+        ensures lane { self.new ≡ (offer_of self.old flow length).lane }
+    {
+        let quote = packets::quote_of(self.queue.flow_at(flow), self.time, length);
+        queue::put(&mut self.queue, flow, length, quote)
+    }
+
+    // Beginning a packet.
+    pub fn begin_at(&mut self) -> Answer
+        ensures answer { result ≡ (begin_of self.old).answer }
+        ensures lane { self.new ≡ (begin_of self.old).lane }
+    {
+        let answer = service::begin(&mut self.queue);
+        if let Answer::Begun(_, _, _, start) = answer {
+            self.time = start;
+        }
+        answer
+    }
+
+    // Ending the packet in service.
+    pub fn end_at(&mut self) -> Answer
+        ensures answer { result ≡ (end_of self.old).answer }
+        ensures lane { self.new ≡ (end_of self.old).lane }
     {
         let finish = self.queue.service.finish;
         let answer = service::end(&mut self.queue);
@@ -85,6 +127,6 @@ impl Fair {
                 self.time = self.largest;
             }
         }
-        Done { lane: self, answer }
+        answer
     }
 }

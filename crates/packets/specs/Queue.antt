@@ -5,8 +5,7 @@ use Rattle.units.specs.Limits.{place_count}
 use Rattle.units.specs.Refusals.{Ground}
 use Rattle.units.specs.declared.Refusal.TheVariants.{PacketInService, NothingWaits, NothingInService}
 use Rattle.places.specs.Places.{count, places_of, flow_of}
-use Rattle.places.specs.declared.Key.{Key}
-use Rattle.places.specs.Choice.{Choice, least_held}
+use Rattle.places.specs.Choice.{Key, Choice, least_held}
 use Rattle.tags.specs.declared.Flow.{Flow}
 use Rattle.tags.specs.declared.Packet.{Packet}
 use Rattle.tags.specs.Tags.{free_packet, is_held, shut_flow}

@@ -12,7 +12,7 @@ ghost use Rattle.tags.specs.Tags.{free_packet};
 ghost use Rattle.packets.specs.Calls.{begun};
 ghost use Rattle.packets.specs.Queue.{fresh_queue, flow_at, waiting, waiting_of, busy_with};
 
-pub use quoting::quote_of;
+pub use quoting::{quote_of, start_after};
 pub use ranking::ByStart;
 use tags::{Flow, Packet};
 use units::{Refusal, Tag};

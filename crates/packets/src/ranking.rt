@@ -1,7 +1,7 @@
 // What waits in a place of the queue, and which packet goes first.
 ghost use Rattle.std.specs.Prelude.{◌≡◌};
 
-use places::{Key, Ranking};
+use places::Ranking;
 use tags::Packet;
 
 // Packets are served by start tag, then by flow, then by number.
@@ -20,12 +20,15 @@ impl Ranking<Packet> for ByStart {
         packet.held
     }
 
-    // The place tells the packet's flow.
-    fn key_at(&self, place: usize, packet: Packet) -> Key {
-        Key {
-            rank: packet.start.0,
-            flow: (place / 16) as u64,
-            number: packet.number,
+    // The earlier start goes first, then the lower flow, which the place tells, then the lower number.
+    #[tactic(auto, unfolding(places::specs::Choice::comes_before))]
+    fn goes_before(&self, place: usize, packet: Packet, other: usize, than: Packet) -> bool {
+        if packet.start != than.start {
+            return tags::earlier(packet.start, than.start);
         }
+        if place / 16 != other / 16 {
+            return place / 16 < other / 16;
+        }
+        packet.number < than.number
     }
 }

@@ -7,8 +7,7 @@ use borrow.Author.Tests.{ltb-true}
 use lib.Dec.{ltb}
 use Rattle.places.specs.Members.{Each, Any}
 use Rattle.places.specs.Places.{count}
-use Rattle.places.specs.declared.Key.{Key}
-use Rattle.places.specs.Choice.{comes_before, nothing, at, Leads}
+use Rattle.places.specs.Choice.{Key, comes_before, nothing, at, Leads}
 use Rattle.places.proofs.Members.{none_passes, some_passes, each_map, some_map}
 use Rattle.places.proofs.Order.{by_rank}
 use Rattle.places.proofs.Tests.{and_holds, and_told}

@@ -7,8 +7,7 @@ use native.Mathlib.Omega.{arith}
 use lib.ListN.{length, get_or, drop, drop_of_length-le}
 use lib.Seq.{drop-cons}
 use Rattle.places.specs.Places.{count}
-use Rattle.places.specs.declared.Key.{Key}
-use Rattle.places.specs.Choice.{comes_before, Choice, nothing, at, better, least, least_held, Leads}
+use Rattle.places.specs.Choice.{Key, comes_before, Choice, nothing, at, better, least, least_held, Leads}
 use Rattle.places.proofs.Count.{count_none, count_some}
 use Rattle.places.proofs.Order.{not_self, not_earlier}
 

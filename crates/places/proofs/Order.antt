@@ -7,8 +7,7 @@ use native.Mathlib.Decide.{dec_lt}
 use native.Mathlib.Omega.{arith}
 use borrow.Author.Tests.{lt-ltb, le-ltb, eq-eqb, ne_eqb, ltb-true, eqb-true}
 use lib.Dec.{ltb, eqb}
-use Rattle.places.specs.declared.Key.{Key}
-use Rattle.places.specs.Choice.{comes_before}
+use Rattle.places.specs.Choice.{Key, comes_before}
 
 -- one comparison after the other, as a program makes them
 module _ (a b : Key) where

@@ -3,8 +3,7 @@ use Rattle.std.proofs.Common.{◌≡◌, IfSome, subst, cond, refl, sym, ap, ◌
 use lib.ListN.{length-take}
 use lib.Seq.{take-suc, take_all}
 use Rattle.std.proofs.lemmas.Option.{IfSome_then, none-some, some_pair_parts}
-use Rattle.places.specs.declared.Key.{Key}
-use Rattle.places.specs.Choice.{better_than, chosen_of, Choice, nothing, at, better, least, least_held}
+use Rattle.places.specs.Choice.{Key, better_than, chosen_of, Choice, nothing, at, better, least, least_held}
 
 module _ {A : Type 0} (held : A → Bool) (key : ℕ → A → Key) where
   -- the best of a choice and of one place more

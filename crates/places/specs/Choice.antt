@@ -1,6 +1,11 @@
 -- Which held place goes first: the least by rank, then by flow, then by number.
 use Rattle.std.specs.Prelude.{◌≡◌, Option, None, Some, Bool, true, false, cond, ◌&&◌, ◌||◌, List, [], ◌∷◌, ℕ, suc, ◌<◌, ltb, eqb, length, get_or}
-use Rattle.places.specs.declared.Key.{Key}
+
+-- what a choice goes by
+pub record Key : Type 0 where
+  pub rank : ℕ
+  pub flow : ℕ
+  pub number : ℕ
 
 unfoldable pub comes_before : Key → Key → Bool
 comes_before a b =

@@ -3,19 +3,11 @@
 
 ghost use Rattle.std.specs.Prelude.{◌≡◌, ◌<◌, ◌≤◌, ℕ, Bool, length, MatchOption, IfSome};
 ghost use Rattle.places.specs.Places.{count, first_free};
-ghost use Rattle.places.specs.Choice.{comes_before, better_than, chosen_of, least_held};
+ghost use Rattle.places.specs.Choice.{better_than, chosen_of, least_held};
 
-// What a choice goes by: the least rank, then the lowest flow, then the lowest number.
-#[derive(Clone, Copy, Debug, PartialEq, Eq, PartialOrd, Ord)]
-pub struct Key {
-    pub rank: u64,
-    pub flow: u64,
-    pub number: u64,
-}
-
-// A ranking of what places hold: whether it waits, and what its choice goes by.
+// A ranking of what places hold: whether it waits, and what its choice goes by: the least rank, then the lowest flow, then the lowest number.
 pub trait Ranking<A> {
-    ghost use Rattle.places.specs.declared.Key.{Key};
+    ghost use Rattle.places.specs.Choice.{Key, comes_before};
 
     ghost held: { Self → A → Bool };
 
@@ -25,9 +17,10 @@ pub trait Ranking<A> {
     fn waits(&self, x: A) -> bool
         ensures { result ≡ held self.now x };
 
-    // What the choice goes by, of what waits at a place.
-    fn key_at(&self, place: usize, x: A) -> Key
-        ensures { result ≡ key self.now place x };
+    // Whether what waits at a place goes before what waits at another. Each ranking compares what it ranks by as what it is, a slot as a slot
+    // and a tag as a tag, so that the one never enters a choice by the other.
+    fn goes_before(&self, place: usize, x: A, other: usize, y: A) -> bool
+        ensures { result ≡ comes_before (key self.now place x) (key self.now other y) };
 }
 
 // How many of the places hold what waits.
@@ -77,14 +70,6 @@ fn goes_first<A: Copy, R: Ranking<A>>(
     }
     match best {
         None => true,
-        Some((before, y)) => precedes(ranking.key_at(place, x), ranking.key_at(before, y)),
+        Some((before, y)) => ranking.goes_before(place, x, before, y),
     }
-}
-
-// Whether this key goes before that one.
-#[tactic(auto, unfolding(crate::specs::Choice::comes_before))]
-fn precedes(this: Key, that: Key) -> bool
-    ensures { result ≡ comes_before this that }
-{
-    this < that
 }

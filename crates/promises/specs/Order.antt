@@ -1,7 +1,6 @@
 -- Which of two waiting records goes before the other, said outright.
 use Rattle.std.specs.Prelude.{◌≡◌, ◌⊎◌, true, ◌<◌}
-use Rattle.places.specs.declared.Key.{Key}
-use Rattle.places.specs.Choice.{comes_before}
+use Rattle.places.specs.Choice.{Key, comes_before}
 
 -- by rank, which is a cell's last slot or a packet's start tag; of equal rank by flow; and of one flow by number
 abbrev pub GoesBefore : Key → Key → Type 0

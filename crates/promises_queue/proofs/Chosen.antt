@@ -14,8 +14,7 @@ use Rattle.units.specs.Limits.{place_count}
 use Rattle.places.specs.Members.{Any}
 use Rattle.places.specs.Places.{flow_of}
 use Rattle.places.specs.Numbers.{of_flow}
-use Rattle.places.specs.declared.Key.{Key}
-use Rattle.places.specs.Choice.{comes_before, at, Leads}
+use Rattle.places.specs.Choice.{Key, comes_before, at, Leads}
 use Rattle.places.specs.Marks.{Mark}
 use Rattle.places.proofs.Least.{leads}
 use Rattle.places.proofs.Leading.{none_before, none_earlier}

@@ -6,8 +6,7 @@ use Rattle.places.specs.Members.{Each, Any}
 use Rattle.places.specs.Marks.{open_in}
 use Rattle.places.specs.Numbers.{of_flow, Numbered}
 use Rattle.places.specs.Places.{bit, count, count_at, flow_of}
-use Rattle.places.specs.declared.Key.{Key}
-use Rattle.places.specs.Choice.{comes_before}
+use Rattle.places.specs.Choice.{Key, comes_before}
 use Rattle.tags.specs.declared.Packet.{Packet as Place}
 use Rattle.packets.specs.declared.Queue.{Queue}
 use Rattle.packets.specs.declared.Answer.{Answer}

@@ -13,8 +13,7 @@ use Rattle.units.specs.Refusals.{first_of, unless}
 use Rattle.units.proofs.Refusals.{after_flow, none_is_none}
 use Rattle.units.specs.declared.Refusal.TheVariants.{SlotsUsedUp}
 use Rattle.places.specs.Places.{bit, count, flow_of}
-use Rattle.places.specs.declared.Key.{Key}
-use Rattle.places.specs.Choice.{Choice, nothing, at, least_held}
+use Rattle.places.specs.Choice.{Key, Choice, nothing, at, least_held}
 use Rattle.places.proofs.Count.{count_add, bit_split}
 use Rattle.places.proofs.Least.{leads}
 use Rattle.places.proofs.Leading.{none_waits, it_is_first}

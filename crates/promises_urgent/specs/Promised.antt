@@ -2,8 +2,7 @@
 use Rattle.std.specs.Prelude.{◌≡◌, Bool, true, false, cond, ◌&&◌, List, [], ◌∷◌, map, ℕ, suc, ◌+◌, ◌-◌, ◌*◌, ◌≤◌, ◌<◌, eqb, length, get_or}
 use Rattle.units.specs.Limits.{place_count, slot_limit}
 use Rattle.places.specs.Places.{count, count_at, flow_of}
-use Rattle.places.specs.declared.Key.{Key}
-use Rattle.places.specs.Choice.{comes_before}
+use Rattle.places.specs.Choice.{Key, comes_before}
 use Rattle.urgent.specs.declared.Urgent.{Urgent}
 use Rattle.urgent.specs.declared.Cell.{Cell as Place}
 use Rattle.urgent.specs.declared.Answer.{Answer}

@@ -4,7 +4,8 @@
 ghost use Rattle.std.specs.Prelude.{◌≡◌};
 ghost use Rattle.text.specs.Lines.{Printed};
 ghost use Rattle.text.specs.Feeding.{FeedsBy};
-ghost use Rattle.replies.specs.Printing.{longest};
+ghost use Rattle.replies.specs.Printing.{line_of, longest};
+ghost use Rattle.session.specs.Whole.{answer_of};
 ghost use Rattle.session.specs.Steps.{fresh_session, kept_as, step_of, finish_of};
 
 use feeding::{Fed, Line};
@@ -29,20 +30,15 @@ impl Session {
         }
     }
 
-    // Takes as much of the input as out has room for, and writes the answers of its lines at the start of out. The lanes are
-    // taken apart so that a line moves only the lane it calls; the answers that they start with are read by nobody.
+    // Takes as much of the input as out has room for, and writes the answers of its lines at the start of out. The station stays where it is
+    // meanwhile: a line copies neither lane.
     pub fn feed(self, input: &[u8], out: &mut [u8]) -> Fed<Session>
         ensures { FeedsBy step_of longest self input.now out.old out.new result.state result.read result.written }
     {
-        let Session { station, mut line } = self;
-        let mut urgent = urgent::Done {
-            lane: station.urgent,
-            answer: urgent::Answer::Opened,
-        };
-        let mut fair = fair::Done {
-            lane: station.fair,
-            answer: fair::Answer::Opened,
-        };
+        let Session {
+            mut station,
+            mut line,
+        } = self;
         let mut read = 0;
         let mut written = 0;
         for b in input {
@@ -50,50 +46,8 @@ impl Session {
                 break;
             }
             if *b == b'\n' {
-                let answered = match asked(&line) {
-                    Some(Call::OpenUrgent(flow, deadline)) => {
-                        urgent = urgent.lane.open(flow, deadline);
-                        Reply::Urgent(urgent.answer)
-                    }
-                    Some(Call::OpenFair(flow, weight)) => {
-                        fair = fair.lane.open(flow, weight);
-                        Reply::Fair(fair.answer)
-                    }
-                    Some(Call::CloseUrgent(flow)) => {
-                        urgent = urgent.lane.close(flow);
-                        Reply::Urgent(urgent.answer)
-                    }
-                    Some(Call::CloseFair(flow)) => {
-                        fair = fair.lane.close(flow);
-                        Reply::Fair(fair.answer)
-                    }
-                    Some(Call::OfferCell(flow, deadline)) => {
-                        urgent = urgent.lane.offer(flow, deadline);
-                        Reply::Urgent(urgent.answer)
-                    }
-                    Some(Call::OfferPacket(flow, length)) => {
-                        fair = fair.lane.offer(flow, length);
-                        Reply::Fair(fair.answer)
-                    }
-                    Some(Call::OpenTurn) => {
-                        urgent = urgent.lane.turn(true);
-                        Reply::Urgent(urgent.answer)
-                    }
-                    Some(Call::LostTurn) => {
-                        urgent = urgent.lane.turn(false);
-                        Reply::Urgent(urgent.answer)
-                    }
-                    Some(Call::Begin) => {
-                        fair = fair.lane.begin();
-                        Reply::Fair(fair.answer)
-                    }
-                    Some(Call::End) => {
-                        fair = fair.lane.end();
-                        Reply::Fair(fair.answer)
-                    }
-                    None => Reply::Urgent(urgent::Answer::Refused(Refusal::NoCommand)),
-                };
-                written = replies::print(answered, out, written);
+                let reply = answer(&mut station, asked(&line));
+                written = replies::print(reply, out, written);
                 line.end();
             } else {
                 line.keep(*b);
@@ -101,13 +55,7 @@ impl Session {
             read += 1;
         }
         Fed {
-            state: Session {
-                station: Station {
-                    urgent: urgent.lane,
-                    fair: fair.lane,
-                },
-                line,
-            },
+            state: Session { station, line },
             read,
             written,
         }
@@ -129,4 +77,15 @@ fn asked(line: &Line) -> Option<Call>
     ensures { result ≡ kept_as line.now }
 {
     lines::parse(line.whole()?)
+}
+
+// What the station replies to a line; one that asks for no call leaves it as it was.
+fn answer(station: &mut Station, asked: Option<Call>) -> Reply
+    ensures station { station.new ≡ (answer_of station.old asked).station }
+    ensures text { line_of result ≡ (answer_of station.old asked).text }
+{
+    match asked {
+        Some(call) => station.call_at(call),
+        None => Reply::Urgent(urgent::Answer::Refused(Refusal::NoCommand)),
+    }
 }

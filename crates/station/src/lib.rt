@@ -70,110 +70,132 @@ impl Station {
     }
 
     // Opens a flow of the urgent lane with a deadline.
-    pub fn open_urgent(self, flow: u64, deadline: u64) -> Called
+    pub fn open_urgent(mut self, flow: u64, deadline: u64) -> Called
         ensures { result ≡ by_urgent self (open_urgent_of self.urgent flow deadline) }
     {
-        by_urgent(self.fair, self.urgent.open(flow, deadline))
+        let reply = Reply::Urgent(self.urgent.open_at(flow, deadline));
+        Called {
+            station: self,
+            reply,
+        }
     }
 
     // Opens a flow of the fair lane with a weight.
-    pub fn open_fair(self, flow: u64, weight: u64) -> Called
+    pub fn open_fair(mut self, flow: u64, weight: u64) -> Called
         ensures { result ≡ by_fair self (open_fair_of self.fair flow weight) }
     {
-        by_fair(self.urgent, self.fair.open(flow, weight))
+        let reply = Reply::Fair(self.fair.open_at(flow, weight));
+        Called {
+            station: self,
+            reply,
+        }
     }
 
     // Closes a flow of the urgent lane that has no cell waiting.
-    pub fn close_urgent(self, flow: u64) -> Called
+    pub fn close_urgent(mut self, flow: u64) -> Called
         ensures { result ≡ by_urgent self (close_urgent_of self.urgent flow) }
     {
-        by_urgent(self.fair, self.urgent.close(flow))
+        let reply = Reply::Urgent(self.urgent.close_at(flow));
+        Called {
+            station: self,
+            reply,
+        }
     }
 
     // Closes a flow of the fair lane that has no packet waiting or in service.
-    pub fn close_fair(self, flow: u64) -> Called
+    pub fn close_fair(mut self, flow: u64) -> Called
         ensures { result ≡ by_fair self (close_fair_of self.fair flow) }
     {
-        by_fair(self.urgent, self.fair.close(flow))
+        let reply = Reply::Fair(self.fair.close_at(flow));
+        Called {
+            station: self,
+            reply,
+        }
     }
 
     // Offers a cell of a flow to the urgent lane, with a deadline of its own.
-    pub fn offer_cell(self, flow: u64, deadline: u64) -> Called
+    pub fn offer_cell(mut self, flow: u64, deadline: u64) -> Called
         ensures { result ≡ by_urgent self (offer_cell_of self.urgent flow deadline) }
     {
-        by_urgent(self.fair, self.urgent.offer(flow, deadline))
+        let reply = Reply::Urgent(self.urgent.offer_at(flow, deadline));
+        Called {
+            station: self,
+            reply,
+        }
     }
 
     // Offers a packet of a flow to the fair lane.
-    pub fn offer_packet(self, flow: u64, length: u64) -> Called
+    pub fn offer_packet(mut self, flow: u64, length: u64) -> Called
         ensures { result ≡ by_fair self (offer_packet_of self.fair flow length) }
     {
-        by_fair(self.urgent, self.fair.offer(flow, length))
+        let reply = Reply::Fair(self.fair.offer_at(flow, length));
+        Called {
+            station: self,
+            reply,
+        }
     }
 
     // A turn of the radio, open or lost.
-    pub fn turn(self, usable: bool) -> Called
+    pub fn turn(mut self, usable: bool) -> Called
         ensures { result ≡ by_urgent self (turn_of self.urgent usable) }
     {
-        by_urgent(self.fair, self.urgent.turn(usable))
+        let reply = Reply::Urgent(self.urgent.turn_at(usable));
+        Called {
+            station: self,
+            reply,
+        }
     }
 
     // Takes a waiting packet into service.
-    pub fn begin(self) -> Called
+    pub fn begin(mut self) -> Called
         ensures { result ≡ by_fair self (begin_of self.fair) }
     {
-        by_fair(self.urgent, self.fair.begin())
+        let reply = Reply::Fair(self.fair.begin_at());
+        Called {
+            station: self,
+            reply,
+        }
     }
 
     // Ends the packet in service.
-    pub fn end(self) -> Called
+    pub fn end(mut self) -> Called
         ensures { result ≡ by_fair self (end_of self.fair) }
     {
-        by_fair(self.urgent, self.fair.end())
+        let reply = Reply::Fair(self.fair.end_at());
+        Called {
+            station: self,
+            reply,
+        }
     }
 
     // Answers any call.
-    #[tactic(auto, unfolding(crate::specs::Calls::call_of))]
-    pub fn call(self, call: Call) -> Called
+    pub fn call(mut self, call: Call) -> Called
         ensures { result ≡ call_of self call }
     {
-        match call {
-            Call::OpenUrgent(flow, deadline) => self.open_urgent(flow, deadline),
-            Call::OpenFair(flow, weight) => self.open_fair(flow, weight),
-            Call::CloseUrgent(flow) => self.close_urgent(flow),
-            Call::CloseFair(flow) => self.close_fair(flow),
-            Call::OfferCell(flow, deadline) => self.offer_cell(flow, deadline),
-            Call::OfferPacket(flow, length) => self.offer_packet(flow, length),
-            Call::OpenTurn => self.turn(true),
-            Call::LostTurn => self.turn(false),
-            Call::Begin => self.begin(),
-            Call::End => self.end(),
+        let reply = self.call_at(call);
+        Called {
+            station: self,
+            reply,
         }
     }
-}
 
-// The station after a call on the urgent lane: that lane as the call left it, and the other as it was.
-fn by_urgent(fair: Fair, done: urgent::Done) -> Called
-    ensures { result ≡ by_urgent (record { urgent = done.lane; fair = fair }) done }
-{
-    Called {
-        station: Station {
-            urgent: done.lane,
-            fair,
-        },
-        reply: Reply::Urgent(done.answer),
-    }
-}
-
-// The station after a call on the fair lane: that lane as the call left it, and the other as it was.
-fn by_fair(urgent: Urgent, done: fair::Done) -> Called
-    ensures { result ≡ by_fair (record { urgent = urgent; fair = done.lane }) done }
-{
-    Called {
-        station: Station {
-            urgent,
-            fair: done.lane,
-        },
-        reply: Reply::Fair(done.answer),
+    // Answers any call, on a station that stays where it is.
+    #[tactic(auto, unfolding(crate::specs::Calls::call_of))]
+    pub fn call_at(&mut self, call: Call) -> Reply
+        ensures reply { result ≡ (call_of self.old call).reply }
+        ensures station { self.new ≡ (call_of self.old call).station }
+    {
+        match call {
+            Call::OpenUrgent(flow, deadline) => Reply::Urgent(self.urgent.open_at(flow, deadline)),
+            Call::OpenFair(flow, weight) => Reply::Fair(self.fair.open_at(flow, weight)),
+            Call::CloseUrgent(flow) => Reply::Urgent(self.urgent.close_at(flow)),
+            Call::CloseFair(flow) => Reply::Fair(self.fair.close_at(flow)),
+            Call::OfferCell(flow, deadline) => Reply::Urgent(self.urgent.offer_at(flow, deadline)),
+            Call::OfferPacket(flow, length) => Reply::Fair(self.fair.offer_at(flow, length)),
+            Call::OpenTurn => Reply::Urgent(self.urgent.turn_at(true)),
+            Call::LostTurn => Reply::Urgent(self.urgent.turn_at(false)),
+            Call::Begin => Reply::Fair(self.fair.begin_at()),
+            Call::End => Reply::Fair(self.fair.end_at()),
+        }
     }
 }

@@ -4,8 +4,7 @@ use Rattle.units.specs.Limits.{place_count}
 use Rattle.units.specs.Refusals.{Ground, first_of, unless}
 use Rattle.units.specs.declared.Refusal.TheVariants.{PacketInService, NothingWaits}
 use Rattle.places.specs.Places.{places_of}
-use Rattle.places.specs.declared.Key.{Key}
-use Rattle.places.specs.Choice.{Choice, nothing, at, least_held}
+use Rattle.places.specs.Choice.{Key, Choice, nothing, at, least_held}
 use Rattle.tags.specs.declared.Packet.{Packet}
 use Rattle.tags.specs.Tags.{is_held}
 use Rattle.packets.specs.declared.Queue.{Queue}

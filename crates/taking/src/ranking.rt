@@ -1,7 +1,7 @@
 // Which of a flow's packets goes first.
 ghost use Rattle.std.specs.Prelude.{◌≡◌};
 
-use places::{Key, Ranking};
+use places::Ranking;
 use tags::Packet;
 
 // The packets of a flow are taken by number.
@@ -21,11 +21,11 @@ impl Ranking<Packet> for ByNumber {
     }
 
     // Of packets with one number, which no lane has, the first place would go first.
-    fn key_at(&self, place: usize, packet: Packet) -> Key {
-        Key {
-            rank: packet.number,
-            flow: 0,
-            number: place as u64,
+    #[tactic(auto, unfolding(places::specs::Choice::comes_before))]
+    fn goes_before(&self, place: usize, packet: Packet, other: usize, than: Packet) -> bool {
+        if packet.number != than.number {
+            return packet.number < than.number;
         }
+        place < other
     }
 }

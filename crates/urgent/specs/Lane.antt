@@ -4,8 +4,8 @@ use Rattle.units.specs.Limits.{place_count, slot_limit, no_such_flow, outside_of
 use Rattle.units.specs.Refusals.{Ground}
 use Rattle.units.specs.declared.Slot.{Slot}
 use Rattle.units.specs.declared.Refusal.TheVariants.{NoSuchFlow, NotOpen, AlreadyOpen, PlacesFull, SlotsUsedUp, FlowInUse, BadDeadline}
+use Rattle.places.specs.Choice.{Key}
 use Rattle.places.specs.Places.{count, places_of, flow_of}
-use Rattle.places.specs.declared.Key.{Key}
 use Rattle.urgent.specs.declared.Cell.{Cell}
 use Rattle.urgent.specs.declared.Flow.{Flow}
 use Rattle.urgent.specs.declared.Urgent.{Urgent}

@@ -11,15 +11,21 @@ impl Urgent {
     pub fn close(mut self, flow: u64) -> Done
         ensures { result ≡ close_of self flow }
     {
+        let answer = self.close_at(flow);
+        Done { lane: self, answer }
+    }
+
+    // The same on a lane that stays where it is.
+    pub fn close_at(&mut self, flow: u64) -> Answer
+        ensures answer { result ≡ (close_of self.old flow).answer }
+        ensures lane { self.new ≡ (close_of self.old flow).lane }
+    {
         match self.to_close(flow) {
             Ok(f) => {
                 self.flows[f].opened = false;
-                Done {
-                    lane: self,
-                    answer: Answer::Closed,
-                }
+                Answer::Closed
             }
-            Err(refusal) => self.refused(refusal),
+            Err(refusal) => Answer::Refused(refusal),
         }
     }
 

@@ -12,7 +12,6 @@ ghost use Rattle.std.specs.Prelude.{◌≡◌, ◌<◌, ◌*◌};
 ghost use Rattle.units.specs.Limits.{place_count};
 ghost use Rattle.places.specs.Places.{places_of};
 ghost use Rattle.urgent.specs.Lane.{free_cell, fresh_lane};
-ghost use Rattle.urgent.specs.Calls.{refused};
 
 use units::{Refusal, Slot};
 
@@ -95,15 +94,5 @@ impl Urgent {
         ensures { result.now ≡ places_of place_count flow self.entry.now.cells }
     {
         &self.cells[flow * 16..flow * 16 + 16]
-    }
-
-    // A refused call hands the lane back as it was.
-    fn refused(self, refusal: Refusal) -> Done
-        ensures { result ≡ refused self refusal }
-    {
-        Done {
-            lane: self,
-            answer: Answer::Refused(refusal),
-        }
     }
 }

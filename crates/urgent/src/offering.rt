@@ -13,6 +13,15 @@ impl Urgent {
     pub fn offer(mut self, flow: u64, deadline: u64) -> Done
         ensures { result ≡ offer_of self flow deadline }
     {
+        let answer = self.offer_at(flow, deadline);
+        Done { lane: self, answer }
+    }
+
+    // The same on a lane that stays where it is.
+    pub fn offer_at(&mut self, flow: u64, deadline: u64) -> Answer
+        ensures answer { result ≡ (offer_of self.old flow deadline).answer }
+        ensures lane { self.new ≡ (offer_of self.old flow deadline).lane }
+    {
         match self.to_offer(flow, deadline) {
             Ok((f, place)) => {
                 let number = self.flows[f].next;
@@ -23,12 +32,9 @@ impl Urgent {
                     number,
                     last,
                 };
-                Done {
-                    lane: self,
-                    answer: Answer::Accepted(number, last),
-                }
+                Answer::Accepted(number, last)
             }
-            Err(refusal) => self.refused(refusal),
+            Err(refusal) => Answer::Refused(refusal),
         }
     }
 

@@ -10,6 +10,15 @@ impl Urgent {
     pub fn open(mut self, flow: u64, deadline: u64) -> Done
         ensures { result ≡ open_of self flow deadline }
     {
+        let answer = self.open_at(flow, deadline);
+        Done { lane: self, answer }
+    }
+
+    // The same on a lane that stays where it is.
+    pub fn open_at(&mut self, flow: u64, deadline: u64) -> Answer
+        ensures answer { result ≡ (open_of self.old flow deadline).answer }
+        ensures lane { self.new ≡ (open_of self.old flow deadline).lane }
+    {
         match self.to_open(flow, deadline) {
             Ok(f) => {
                 self.flows[f] = Flow {
@@ -17,12 +26,9 @@ impl Urgent {
                     deadline,
                     ..self.flows[f]
                 };
-                Done {
-                    lane: self,
-                    answer: Answer::Opened,
-                }
+                Answer::Opened
             }
-            Err(refusal) => self.refused(refusal),
+            Err(refusal) => Answer::Refused(refusal),
         }
     }
 

@@ -2,7 +2,7 @@
 ghost use Rattle.std.specs.Prelude.{◌≡◌};
 
 use crate::Cell;
-use places::{Key, Ranking};
+use places::Ranking;
 
 // Cells are sent by last slot, then by flow, then by number.
 pub(crate) struct ByLastSlot;
@@ -19,12 +19,15 @@ impl Ranking<Cell> for ByLastSlot {
         cell.held
     }
 
-    // The place tells the cell's flow.
-    fn key_at(&self, place: usize, cell: Cell) -> Key {
-        Key {
-            rank: cell.last.0,
-            flow: (place / 16) as u64,
-            number: cell.number,
+    // The earlier last slot goes first, then the lower flow, which the place tells, then the lower number.
+    #[tactic(auto, unfolding(places::specs::Choice::comes_before))]
+    fn goes_before(&self, place: usize, cell: Cell, other: usize, than: Cell) -> bool {
+        if cell.last != than.last {
+            return cell.last < than.last;
         }
+        if place / 16 != other / 16 {
+            return place / 16 < other / 16;
+        }
+        cell.number < than.number
     }
 }

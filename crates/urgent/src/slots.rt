@@ -1,4 +1,4 @@
-// Slots are compared and counted here, and nowhere else in the lane.
+// Slots are counted here, and nowhere else in the lane; they are compared by the order of their type, as slots and nothing else.
 ghost use Rattle.std.specs.Prelude.{◌≡◌, ◌+◌, ◌-◌, ◌<◌, ◌≤◌, nat_le, nat_lt};
 ghost use Rattle.units.specs.Limits.{slot_limit};
 

@@ -11,13 +11,22 @@ use units::{Refusal, Slot};
 
 impl Urgent {
     // A turn of the radio, open or lost: an open one sends a cell if any waits, and after either the cells whose last slot it was are dropped.
-    #[tactic(auto, unfolding(crate::specs::Calls::turn_of, units::specs::Refusals::first_of))]
     pub fn turn(mut self, usable: bool) -> Done
         ensures { result ≡ turn_of self usable }
     {
+        let answer = self.turn_at(usable);
+        Done { lane: self, answer }
+    }
+
+    // The same on a lane that stays where it is.
+    #[tactic(auto, unfolding(crate::specs::Calls::turn_of, units::specs::Refusals::first_of))]
+    pub fn turn_at(&mut self, usable: bool) -> Answer
+        ensures answer { result ≡ (turn_of self.old usable).answer }
+        ensures lane { self.new ≡ (turn_of self.old usable).lane }
+    {
         let now = self.now;
         if used_up(now) {
-            return self.refused(Refusal::SlotsUsedUp);
+            return Answer::Refused(Refusal::SlotsUsedUp);
         }
         let chosen = if usable {
             places::first(&ByLastSlot, &self.cells)
@@ -29,11 +38,10 @@ impl Urgent {
         }
         let missed = drop_due(&mut self.cells, now);
         self.now = after(now);
-        let answer = match chosen {
+        match chosen {
             Some((place, cell)) => Answer::Sent((place / 16) as u64, cell.number, missed),
             None => Answer::Idle(missed),
-        };
-        Done { lane: self, answer }
+        }
     }
 }
 
