@@ -24,6 +24,10 @@ module _ (q : Queue) (flow : ℕ) where
   abbrev pub own : Choice Packet
   own = least_held is_held by_number (places_of place_count flow q.packets)
 
+  -- which is the choice among all places
+  pub lowest_at : (k : ℕ) (p : Packet) → Some (k, p) ≡ chosen_of own → lowest_of q flow ≡ at (flow * 16 + k) p
+  lowest_at k p e = ap (among_all flow) (chosen_at own k p e)
+
   -- what taking gives, by its test and the choice
   by_choice : Bool → Choice Packet → Kept
   by_choice busy choice = unless (refused q) (first_of ((PacketInService, busy) ∷ (NothingWaits, is_none choice) ∷ [])) (begun q choice)

@@ -6,7 +6,7 @@ mod ranking;
 ghost use Rattle.std.specs.Prelude.{◌≡◌, MatchResult};
 ghost use Rattle.places.specs.Choice.{at};
 ghost use Rattle.packets.specs.Calls.{begun, refused};
-ghost use Rattle.taking.specs.Taking.{take_of};
+ghost use Rattle.taking.specs.Taking.{lowest_of, take_of};
 
 use packets::Queue;
 use ranking::ByNumber;
@@ -15,7 +15,7 @@ use units::Refusal;
 
 // The flow's waiting packet of least number and its place, or why none is taken into service.
 pub fn lowest(queue: &Queue, flow: u64) -> Result<(usize, Packet), Refusal>
-    ensures { MatchResult result (λ first. take_of queue.now flow ≡ begun queue.now (at first.0 first.1)) (λ refusal. take_of queue.now flow ≡ refused queue.now refusal) }
+    ensures { MatchResult result (λ first. (lowest_of queue.now flow ≡ at first.0 first.1) × (take_of queue.now flow ≡ begun queue.now (at first.0 first.1))) (λ refusal. take_of queue.now flow ≡ refused queue.now refusal) }
 {
     if queue.service.busy {
         return Err(Refusal::PacketInService);

@@ -12,14 +12,14 @@ pub returns-then-passes : goal.returns-then-passes
 returns-then-passes c =
     let u = c.args.lane in
     let d : Kept = begun u.queue (at c.in-Ok.place c.in-Ok.packet) in
-    let kept : d ≡ take_of u.queue (flow_met u.tree) = sym (rw c.flow_met-met.ensures at c.in-Ok.ensures) in
+    let kept : d ≡ take_of u.queue (flow_met u.tree) = sym (rw c.flow_met-met.ensures at c.in-Ok.ensures.1) in
     rw c.refused.ensures (((begin_by u d kept).1 (λ r e. cc)).0 (sym c.passes.ensures ∙ c.if-passes.true))
 
 pub returns-else-passes : goal.returns-else-passes
 returns-else-passes c =
     let u = c.args.lane in
     let d : Kept = begun u.queue (at c.in-Ok.place c.in-Ok.packet) in
-    let kept : d ≡ take_of u.queue (flow_met u.tree) = sym (rw c.flow_met-met.ensures at c.in-Ok.ensures) in
+    let kept : d ≡ take_of u.queue (flow_met u.tree) = sym (rw c.flow_met-met.ensures at c.in-Ok.ensures.1) in
     rw (c.begin-tree.ensures, c.flow_node.ensures, c.serve.ensures.queue) (((begin_by u d kept).1 (λ r e. cc)).1 (sym c.passes.ensures ∙ c.if-passes.false))
 
 pub returns-in-Err : goal.returns-in-Err

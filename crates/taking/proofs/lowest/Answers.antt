@@ -1,6 +1,6 @@
 -- Each return is the case of taking that its tests lead to.
 use Rattle.std.proofs.Common.{◌≡◌, sym, ◌∙◌}
-use Rattle.taking.proofs.Laws.{take_8, take_9, take_no_flow, take_ok}
+use Rattle.taking.proofs.Laws.{lowest_at, take_8, take_9, take_no_flow, take_ok}
 use Rattle.taking.proofs.lowest.Goals as goal
 
 pub returns-then-queue : goal.returns-then-queue
@@ -14,5 +14,7 @@ returns-in_default-first c = take_9 c.args.queue.now c.args.flow c.if-queue.fals
 
 pub returns : goal.returns
 returns c =
-    rw c.in-Ok.ensures.0
-    (take_ok c.args.queue.now c.args.flow c.if-queue.false c.in-Some.k c.in-Some.packet (rw c.places-places.ensures.value at c.in-Some.ensures.choice))
+    let chosen = rw c.places-places.ensures.value at c.in-Some.ensures.choice in (
+      rw c.in-Ok.ensures.0 (lowest_at c.args.queue.now c.args.flow c.in-Some.k c.in-Some.packet chosen),
+      rw c.in-Ok.ensures.0 (take_ok c.args.queue.now c.args.flow c.if-queue.false c.in-Some.k c.in-Some.packet chosen),
+    )
