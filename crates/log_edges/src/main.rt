@@ -42,19 +42,32 @@ impl Case {
     }
 }
 
+// What the cases are held in, one after the other: the bytes of a log, the numbers of one that is written, and the room for it, which holds the
+// second of a pair too. They are lent to each case, since a function pays at its entry for what it holds itself.
+#[derive(Drop)]
+struct Held {
+    bytes: [u8; 70_000],
+    words: [u32; 17_080],
+    room: [u8; 70_000],
+}
+
 fn main(rt: HostRuntime) {
-    let mut bytes = [0u8; 70_000];
-    cases(&rt, &mut bytes);
+    let mut held = Held {
+        bytes: [0; 70_000],
+        words: [0; 17_080],
+        room: [0; 70_000],
+    };
+    cases(&rt, &mut held);
 }
 
 // Answers one case after the other, up to the end of the input. A proved loop has to end: it counts the cases, up to a number that no run
 // uses up.
-fn cases(rt: &HostRuntime, bytes: &mut [u8]) {
+fn cases(rt: &HostRuntime, held: &mut Held) {
     for _ in 0..u64::MAX {
         let Some(kind) = byte(rt) else {
             return;
         };
-        if answer(rt, kind, bytes).is_none() {
+        if answer(rt, kind, held).is_none() {
             tell(rt);
             return;
         }
@@ -67,18 +80,18 @@ fn tell(rt: &HostRuntime) {
     let _ = streams::put(&mut error, b"log_edges: a case is not answered\n");
 }
 
-// Answers the case that a byte tells, with bytes lent for its log or its numbers; nothing where it could not.
-fn answer(rt: &HostRuntime, kind: u8, bytes: &mut [u8]) -> Option<()> {
+// Answers the case that a byte tells; nothing where it could not.
+fn answer(rt: &HostRuntime, kind: u8, held: &mut Held) -> Option<()> {
     let case = Case::told_by(kind)?;
     let n = number(rt)?;
     match case {
-        Case::Read => reading(rt, log(rt, n, bytes)?),
+        Case::Read => reading(rt, log(rt, n, &mut held.bytes)?),
         Case::Pair => {
             let m = number(rt)?;
-            comparing(rt, log(rt, n, bytes)?, m)
+            comparing(rt, log(rt, n, &mut held.bytes)?, m, &mut held.room)
         }
-        Case::Record => finding(rt, log(rt, n, bytes)?),
-        Case::Write(form) => writing(rt, form, n, bytes),
+        Case::Record => finding(rt, log(rt, n, &mut held.bytes)?),
+        Case::Write(form) => writing(rt, form, n, held),
     }
 }
 

@@ -47,10 +47,9 @@ fn refused(rt: &HostRuntime, flaw: Flaw) -> Option<()> {
     line(rt, b"no", &[flaw.fault.number(), flaw.place as u64])
 }
 
-// Where a log and the next one, of m bytes, differ, and the tail.
-pub(crate) fn comparing(rt: &HostRuntime, a: &[u8], m: usize) -> Option<()> {
-    let mut bytes = [0u8; 70_000];
-    let b = bytes.get_mut(..m)?;
+// Where a log and the next one, of m bytes, differ, and the tail; the next one comes into the room lent for it.
+pub(crate) fn comparing(rt: &HostRuntime, a: &[u8], m: usize, room: &mut [u8]) -> Option<()> {
+    let b = room.get_mut(..m)?;
     fill(rt, b)?;
     compared(rt, a, b)
 }

@@ -1,4 +1,5 @@
 // Logs that are written.
+use crate::Held;
 use crate::input::{fill, number};
 use crate::output::{counted, line};
 use log_format::{Form, Unwritten};
@@ -12,18 +13,20 @@ const MOST_EVENTS: usize = 17_000;
 const ROOM: u8 = 238;
 
 // What the writer says of a log of this form and of u urgent openings, and the room after it; the other counts, the room's length and the log
-// are still to be read, with bytes lent for them.
-pub(crate) fn writing(rt: &HostRuntime, form: Form, u: usize, bytes: &mut [u8]) -> Option<()> {
+// are still to be read.
+pub(crate) fn writing(rt: &HostRuntime, form: Form, u: usize, held: &mut Held) -> Option<()> {
     let f = number(rt)?;
     let e = number(rt)?;
     let m = number(rt)?;
     if MOST_OPENINGS < u || MOST_OPENINGS < f || MOST_EVENTS < e {
         return None;
     }
-    let mut words = [0u32; 17_080];
-    take(rt, bytes, &mut words[..u + f + e])?;
-    let mut bytes = [ROOM; 70_000];
-    let room = bytes.get_mut(..m)?;
+    let words = &mut held.words[..];
+    take(rt, &mut held.bytes, &mut words[..u + f + e])?;
+    let words = &words[..];
+    let all = &mut held.room[..];
+    let room = all.get_mut(..m)?;
+    room.fill(ROOM);
     let written = log_writing::write(
         form,
         &words[..u],
