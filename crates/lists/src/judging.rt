@@ -9,9 +9,9 @@ use link::Objection;
 use units::Refusal;
 
 impl Reading {
-    // The verdict on the line, were it at its end: an empty line is the empty list, and one that is no list is refused.
-    pub(crate) fn judged(self) -> Result<(), Objection>
-        ensures { result ≡ judged_by self }
+    // The verdict on the line, which is at its end: an empty line is the empty list, and one that is no list is refused.
+    pub(crate) fn judge(&mut self) -> Result<(), Objection>
+        ensures { result ≡ judged_by self.old }
     {
         if !self.hand.some {
             return Ok(());
@@ -19,8 +19,8 @@ impl Reading {
         if !self.hand.whole() {
             return Err(Objection::Refused(Refusal::NoCommand));
         }
-        let Reading { count, items, .. } = self.filled();
-        admission::admit(&items[..count.min(17)])
+        self.fill();
+        admission::admit(&self.items[..self.count.min(17)])
     }
 }
 

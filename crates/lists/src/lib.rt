@@ -52,10 +52,10 @@ impl Reading {
                 break;
             }
             if *b == b'\n' {
-                written = print(reading.judged(), out, written);
+                written = print(reading.judge(), out, written);
                 reading = Reading::fresh();
             } else {
-                reading = reading.keeping(*b);
+                reading.keep(*b);
             }
             read += 1;
         }

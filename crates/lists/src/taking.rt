@@ -96,37 +96,37 @@ impl Hand {
 
 impl Reading {
     // One byte more of the line; a blank may make a declaration whole.
-    pub(crate) fn keeping(self, b: u8) -> Reading
-        ensures { result ≡ keeping_of self b }
+    pub(crate) fn keep(&mut self, b: u8)
+        ensures { self.new ≡ keeping_of self.old b }
     {
         let hand = self.hand.takes(b);
-        let kept = if b == b' ' { self.filled() } else { self };
-        Reading { hand, ..kept }
+        if b == b' ' {
+            self.fill();
+        }
+        self.hand = hand;
     }
 
-    // The reading with the declaration at hand, where it is whole.
-    pub(crate) fn filled(self) -> Reading
-        ensures { result ≡ filled_of self }
+    // Puts the declaration at hand, where it is whole.
+    pub(crate) fn fill(&mut self)
+        ensures { self.new ≡ filled_of self.old }
     {
         let hand = self.hand;
-        if !hand.whole() {
-            return self;
+        if hand.whole() {
+            self.put(Declaration {
+                burst: hand.burst,
+                period: hand.period,
+                deadline: hand.value,
+            });
         }
-        self.put(Declaration {
-            burst: hand.burst,
-            period: hand.period,
-            deadline: hand.value,
-        })
     }
 
     // One declaration more, where there is a place for it.
-    fn put(mut self, declaration: Declaration) -> Reading
-        ensures { result ≡ put_of self declaration }
+    fn put(&mut self, declaration: Declaration)
+        ensures { self.new ≡ put_of self.old declaration }
     {
         if self.count < self.items.len() {
             self.items[self.count] = declaration;
             self.count += 1;
         }
-        self
     }
 }

@@ -23,9 +23,9 @@ loop-b-preserved c =
       rw at
           (elim c.if-b-eq10.branch [
             | then-b-eq10 w ↦
-                arrived w.out-is w.reading-is w.written-is (on _ (step_end l.reading b w.if-b-eq10.true w.judged.ensures w.fresh-reading.ensures) _ _ w.print-written.ensures)
+                arrived w.out-is w.reading-is w.written-is (on _ (step_end l.reading b w.if-b-eq10.true w.judge.ensures w.fresh-reading.ensures) _ _ w.print-written.ensures)
             | else-b-eq10 w ↦
-                arrived w.out-is w.reading-is w.written-is (on _ (step_on l.reading b w.if-b-eq10.false w.keeping-reading.ensures) _ _ (put_nothing l.out l.written))
+                arrived w.out-is w.reading-is w.written-is (on _ (step_on l.reading b w.if-b-eq10.false w.keep.ensures) _ _ (put_nothing l.out l.written))
           ]),
     )
 

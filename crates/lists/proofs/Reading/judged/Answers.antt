@@ -1,9 +1,0 @@
--- `judged` meets its contract: an empty line is the empty list.
-use Rattle.std.proofs.Common.{sym, ◌∙◌}
-use borrow.Author.Tests.{not-true}
-use Rattle.link.proofs.Published.{published}
-use Rattle.lists.proofs.Hands.{passed_over}
-use Rattle.lists.proofs.Reading.judged.Goals as goal
-
-pub returns-then-not-self : goal.returns-then-not-self
-returns-then-not-self c = sym (passed_over c.args.self.hand.some _ _ (not-true c.args.self.hand.some c.if-not-self.true) ∙ published.empty)
