@@ -6,6 +6,8 @@ mod records;
 
 ghost use Rattle.std.specs.Prelude.{◌≡◌};
 ghost use Rattle.log_format.specs.Format.{first_byte};
+ghost use Rattle.log_format.specs.Faults.{form_of};
+ghost use Rattle.log_format.specs.Reading.{is_first};
 ghost use Rattle.log_format.specs.Refusals.{fault_number};
 ghost use Rattle.log_format.specs.Told.{form_told};
 
@@ -59,6 +61,24 @@ impl Form {
     {
         self as u8
     }
+
+    // Whether a byte is the first of any log.
+    pub fn is_first(byte: u8) -> bool
+        ensures { result ≡ is_first byte }
+    {
+        byte == 1 || byte == 2
+    }
+
+    // The form that a first byte tells.
+    #[tactic(auto, unfolding(crate::specs::Faults::form_of))]
+    pub fn told_by(byte: u8) -> Form
+        ensures { result ≡ form_of byte }
+    {
+        match byte {
+            2 => Form::Own,
+            _ => Form::Flow,
+        }
+    }
 }
 
 // The form that a first byte tells; any other byte is the fault of a log that starts with it.
@@ -67,13 +87,11 @@ impl TryFrom<u8> for Form {
 
     ghost try_from_gives = { λ byte form. form ≡ form_told byte };
 
-    #[tactic(auto, unfolding(crate::specs::Faults::form_of))]
     fn try_from(byte: u8) -> Result<Form, Fault> {
-        match byte {
-            1 => Ok(Form::Flow),
-            2 => Ok(Form::Own),
-            _ => Err(Fault::FirstByte),
+        if Form::is_first(byte) {
+            return Ok(Form::told_by(byte));
         }
+        Err(Fault::FirstByte)
     }
 }
 

@@ -5,6 +5,7 @@ use Rattle.log_format.specs.declared.Flaw.{Flaw}
 use Rattle.log_format.specs.Faults.{four_at, form_at}
 use Rattle.log_format.specs.Reading.{Part, field, table_parts, first_fault}
 use Rattle.log_table.specs.declared.Layout.{Layout}
+use Rattle.log_table.specs.declared.Lengths.{Lengths}
 
 abbrev pub flaw_of : Fault × ℕ → Flaw
 flaw_of found = record { fault = found.0; place = found.1 }
@@ -19,6 +20,10 @@ abbrev pub found_in : ℕ → List Part → Result (Unit {0}) Flaw
 found_in n parts = unless (first_fault n parts) tt
 
 -- ---- the table
+-- the lengths that it states
+abbrev pub lengths_of : List ℕ → Lengths
+lengths_of s = record { urgent = four_at s 5; fair = four_at s 13; events = four_at s 21 }
+
 -- what it states, be it right or wrong
 abbrev pub layout_of : List ℕ → Layout
 layout_of s = record { form = form_at s; urgent = four_at s 5; fair = four_at s 13; events = four_at s 21 }

@@ -4,7 +4,11 @@
 mod fields;
 mod table;
 
+ghost use Rattle.std.specs.Prelude.{◌≡◌, ◌<◌};
+ghost use Rattle.log_table.specs.Scanning.{lengths_of};
+
 pub use fields::byte;
+use fields::number;
 use log_format::Form;
 pub use table::read_table;
 
@@ -15,4 +19,24 @@ pub struct Layout {
     pub urgent: usize,
     pub fair: usize,
     pub events: usize,
+}
+
+// How many bytes the table says that each body has.
+#[derive(Clone, Copy, Debug, PartialEq, Eq)]
+pub struct Lengths {
+    pub urgent: usize,
+    pub fair: usize,
+    pub events: usize,
+}
+
+// What the table states, be it right or wrong; that the lengths are small follows, and is said for those who call.
+pub fn stated(log: &[u8]) -> Lengths
+    ensures value { result ≡ lengths_of log.now }
+    ensures urgent_bound { (result.urgent < 4294967296) × (result.fair < 4294967296) × (result.events < 4294967296) }
+{
+    Lengths {
+        urgent: number(log, 5),
+        fair: number(log, 13),
+        events: number(log, 21),
+    }
 }

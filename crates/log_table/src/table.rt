@@ -5,8 +5,8 @@ ghost use Rattle.log_format.specs.Faults.{form_at};
 ghost use Rattle.log_format.specs.Reading.{first_fault, first_part, field, bad_opening_length, bad_event_length};
 ghost use Rattle.log_table.specs.Scanning.{unless, found_in, layout_told, entry};
 
-use crate::Layout;
 use crate::fields::number;
+use crate::{Layout, Lengths, stated};
 use log_format::{Fault, Flaw, Form};
 
 // The most bytes that a log may have.
@@ -18,9 +18,11 @@ pub fn read_table(log: &[u8]) -> Result<Layout, Flaw>
     ensures upper_bound { IfOk result (λ layout. 25 + layout.urgent + layout.fair + layout.events ≤ most_bytes) }
 {
     let form = first(log)?;
-    let urgent = number(log, 5);
-    let fair = number(log, 13);
-    let events = number(log, 21);
+    let Lengths {
+        urgent,
+        fair,
+        events,
+    } = stated(log);
     let end = 25 + urgent + fair + events;
     entry(log, 1, 25, bad_opening_length(urgent))?;
     entry(log, 9, 25 + urgent, bad_opening_length(fair))?;
