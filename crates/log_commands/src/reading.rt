@@ -5,6 +5,7 @@ ghost use Rattle.log_commands.specs.Reading.{starts_with, is_word, command_of};
 use crate::Command;
 
 // What a line asks of the log program: a word alone, or a word, a blank and a number with which the line ends.
+#[tactic(auto, using(crate::proofs::Ways::number_before))]
 pub fn parse(line: &[u8]) -> Option<Command>
     ensures { result ≡ command_of line.now }
 {
