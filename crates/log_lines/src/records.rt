@@ -1,7 +1,9 @@
 // A log's records, each put as the line by which a session makes its call; with less room than the longest line may need nothing is put,
 // and the place is handed back.
+ghost use Rattle.std.specs.Prelude.{◌≡◌};
 ghost use Rattle.text.specs.Lines.{Placed};
 ghost use Rattle.log_lines.specs.Answers.{longest, shown_opening, shown_event};
+ghost use Rattle.log_lines.specs.Letters.{lane_letter, kind_letter, kind_numbers};
 
 use crate::placing::line;
 use log_format::Kind;
@@ -10,7 +12,7 @@ use log_format::Kind;
 pub fn opening(urgent: bool, word: u32, out: &mut [u8], at: usize) -> usize
     ensures { Placed longest (shown_opening urgent word) out.old at out.new result }
 {
-    let letter = if urgent { b'U' } else { b'F' };
+    let letter = lane_letter(urgent);
     let flow = u64::from(word % 256);
     let number = u64::from(word / 256);
     line(out, at, &[letter], &[flow, number])
@@ -24,12 +26,38 @@ pub fn event(word: u32, out: &mut [u8], at: usize) -> usize
     let kind = u64::from(word % 256);
     let flow = u64::from(word / 256 % 256);
     let number = u64::from(word / 65_536);
+    let numbers = &[flow, number][..kind_numbers(kind)];
+    line(out, at, &[kind_letter(kind)], numbers)
+}
+
+// The letter that opens a flow of a lane.
+fn lane_letter(urgent: bool) -> u8
+    ensures { result ≡ lane_letter urgent }
+{
+    if urgent { b'U' } else { b'F' }
+}
+
+// The letter of a kind's call.
+fn kind_letter(kind: u64) -> u8
+    ensures { result ≡ kind_letter kind }
+{
     match Kind::try_from(kind) {
-        Ok(Kind::OpenTurn) => line(out, at, b"t", &[]),
-        Ok(Kind::LostTurn) => line(out, at, b"x", &[]),
-        Ok(Kind::Cell) => line(out, at, b"u", &[flow, number]),
-        Ok(Kind::Packet) => line(out, at, b"f", &[flow, number]),
-        Ok(Kind::Begin) => line(out, at, b"b", &[]),
-        _ => line(out, at, b"e", &[]),
+        Ok(Kind::OpenTurn) => b't',
+        Ok(Kind::LostTurn) => b'x',
+        Ok(Kind::Cell) => b'u',
+        Ok(Kind::Packet) => b'f',
+        Ok(Kind::Begin) => b'b',
+        _ => b'e',
+    }
+}
+
+// How many numbers a kind's call has: a cell its flow and its deadline, a packet its flow and its length.
+fn kind_numbers(kind: u64) -> usize
+    ensures { result ≡ kind_numbers kind }
+{
+    match Kind::try_from(kind) {
+        Ok(Kind::Cell) => 2,
+        Ok(Kind::Packet) => 2,
+        _ => 0,
     }
 }
