@@ -67,8 +67,9 @@ fn answer<P: Filter>(rt: &HostRuntime) -> Result<(), Failed> {
     write(rt, &last[..n])
 }
 
-// Feeds piece after piece until the input ends. A proved loop has to end, and nothing says that the input does: the loop counts its reads,
-// up to a number that no run uses up.
+// Feeds piece after piece until the input ends, and writes the answers as often as out is full: how often that is no range can say. A proved
+// loop has to end, and nothing says that the input does: the loop counts its reads, up to a number that no run uses up. The state stays in
+// this one function meanwhile, since each that hands it on copies it.
 fn feed_input<P: Filter>(
     rt: &HostRuntime,
     mut state: P::State,
@@ -83,25 +84,13 @@ fn feed_input<P: Filter>(
         if n == 0 {
             break;
         }
-        state = feed_piece::<P>(rt, state, &input[..n], out)?;
-    }
-    Ok(state)
-}
-
-// Feeds one piece of input, and writes the answers as often as out is full: how often that is no range can say.
-fn feed_piece<P: Filter>(
-    rt: &HostRuntime,
-    mut state: P::State,
-    mut piece: &[u8],
-    out: &mut [u8],
-) -> Result<P::State, Failed>
-    requires { 96 ≤ length out.old }
-{
-    while !piece.is_empty() {
-        let fed = P::feed(state, piece, out);
-        state = fed.state;
-        write(rt, &out[..fed.written])?;
-        piece = &piece[fed.read..];
+        let mut piece = &input[..n];
+        while !piece.is_empty() {
+            let fed = P::feed(state, piece, out);
+            state = fed.state;
+            write(rt, &out[..fed.written])?;
+            piece = &piece[fed.read..];
+        }
     }
     Ok(state)
 }

@@ -1,7 +1,7 @@
 -- With room for a line, some byte of what is left of the piece is taken at each turn.
 use Rattle.std.proofs.Common.{ℕ, ◌<◌, length, arith, length-drop, length-take}
 use Rattle.text.proofs.Feeding.{feed_takes}
-use Rattle.filters.proofs.feed_piece.Goals as goal
+use Rattle.filters.proofs.feed_input.Goals as goal
 
 pub loop-piece-smaller : goal.loop-piece-smaller
 loop-piece-smaller g c =
