@@ -5,10 +5,10 @@ import shutil
 from support import ROOT, fail, folder, run
 
 # Where the urgent lane asks whether the slot at hand is a cell's last, and where its choice compares two cells; a slot of the fair lane's kind, a
-# tag, is put in a slot's stead.
+# tag, is put in a slot's stead, and this is what the compiler then says.
 ASKED = (
-    ('turning.rt', 'is_due(*cell, now)', 'is_due(*cell, units::Tag(0))'),
-    ('ranking.rt', 'cell.last < than.last', 'cell.last < units::Tag(0)'),
+    ('turning.rt', 'is_due(*cell, now)', 'is_due(*cell, units::Tag(0))', b'expected `Slot`, found `Tag`'),
+    ('ranking.rt', 'cell.last < than.last', 'cell.last < units::Tag(0)', b'`<` cannot compare `Slot` with `Tag`'),
 )
 
 
@@ -18,14 +18,14 @@ def tags_are_no_slots():
     for name in ('units', 'places', 'urgent'):
         shutil.copytree(ROOT / 'crates' / name, root / 'crates' / name, ignore=shutil.ignore_patterns('out'))
     (root / 'crates.txt').write_text('units:\nplaces:\nurgent: units places\n')
-    for name, asked, given in ASKED:
+    for name, asked, given, refusal in ASKED:
         file = root / 'crates' / 'urgent' / 'src' / name
         code = file.read_text()
         if code.count(asked) != 1:
             fail('the lane no longer asks `%s`' % asked)
         file.write_text(code.replace(asked, given))
         status, wrote, said = run(['rt', 'check'], cwd=root / 'crates' / 'urgent')
-        if status == 0 or b'expected `Slot`, found `Tag`' not in wrote + said:
+        if status == 0 or refusal not in wrote + said:
             fail('a tag is taken where a slot is asked for:\n' + (wrote + said).decode())
         file.write_text(code)
     return 'a tag cannot stand where a slot is asked for'
