@@ -31,7 +31,7 @@ impl Session {
     }
 
     // Takes as much of the input as out has room for, and writes the replies to its lines at the start of out. It stays beside the loops of
-    // `session`, which keeps two lanes apart, and of `lists`, which keeps no line: what is done at a byte is all that they are.
+    // `session` and of `lists`, which keeps no line: what is done at a byte is all that they are.
     pub fn feed(self, input: &[u8], out: &mut [u8]) -> Fed<Session>
         ensures { FeedsBy step_of longest self input.now out.old out.new result.state result.read result.written }
     {
